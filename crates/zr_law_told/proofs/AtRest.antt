@@ -323,7 +323,7 @@ module _ (acts : List Numbered) (m : Moment) (is : moments.reached acts ≡ Some
     agrees : Agrees told (leave (told_by m.report name))
     agrees =
         subst (λ z. Agrees told (leave z)) (ap (λ ws. told_by m.report name ++ msgs_in ws) (nothing_waits w quiet (s.router, name)).1 ∙ append-nil (told_by m.report name))
-        (i.told.agrees name s client whole told (ap (λ o. told_of o name) found ∙ ap (option_map (λ (j : LinkPeer). map_on r.told j.link.0)) linked))
+        (i.told.agrees name s client told (ap (λ o. told_of o name) found ∙ ap (option_map (λ (j : LinkPeer). map_on r.told j.link.0)) linked))
 
     wants_same : SameTests (interests_on r.node.clients l.link.0) (interests acts name)
     wants_same f = sym (ap (list_any f) flow_is) ∙ i.wanting.wants name s client whole f

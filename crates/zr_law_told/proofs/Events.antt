@@ -40,7 +40,7 @@ module _ (w : WorldState) (sound : IsSound w) (h : ClientsHold w) (a : Name) (r 
       ∙ ap not (sound.roles a c r l found to ∙ h.apart c s client)
 
   -- the router's end to a client is that of its home
-  its_end : (name c : Name) (t : ClientState) → client_of w.clients c ≡ Some t → is_named name c ≡ true → (s : EndState) → end_of w.ends (a, name) ≡ Some s → end_of w.ends (t.router, c) ≡ Some s
+  pub its_end : (name c : Name) (t : ClientState) → client_of w.clients c ≡ Some t → is_named name c ≡ true → (s : EndState) → end_of w.ends (a, name) ≡ Some s → end_of w.ends (t.router, c) ≡ Some s
   its_end name c t client same s there =
       let here : end_of w.ends (a, c) ≡ Some s = ap (λ (y : Name). end_of w.ends (a, y)) (sym (same_is name c same)) ∙ there in
       ap (λ (x : Name). end_of w.ends (x, c)) (h.homes a c t client (ap is_some here)) ∙ here

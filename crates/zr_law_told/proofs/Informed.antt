@@ -24,7 +24,7 @@ first = record {
   told = record {
     routers = λ x r found. absurd (false≢true (ap is_some found));
     fresh = λ c free. refl;
-    agrees = λ c s found whole m is. absurd (false≢true (ap is_some found));
+    agrees = λ c s found m is. absurd (false≢true (ap is_some found));
   };
   wanting = record {
     kept = λ x r found. absurd (false≢true (ap is_some found));

@@ -7,6 +7,7 @@ pub mod Kept
 pub mod Wanting
 pub mod WantActs
 pub mod Informed
+pub mod Maps
 pub mod Lists
 pub mod Standing
 pub mod AtRest

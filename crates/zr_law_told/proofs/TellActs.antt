@@ -36,13 +36,13 @@ use Rattle.zr_told_spec.specs.Laws.{Agrees}
 use Rattle.zr_told_spec.specs.Rows.{map_on}
 use Rattle.zr_told_spec.specs.Told.{ToldMap, heard as leave}
 use Rattle.zr_told_spec.proofs.Hubs.{start_agrees}
-use Rattle.zr_world_spec.specs.World.{Tagged, RouterState, EndState, ClientState, End, Ends, Routers, Clients, WorldState, with_routers, with_clients, with_ends, with_router, with_client, router_of, client_of, end_of, is_end, new_router, new_client, new_end, put_end, with_end, with_wire, with_queue, lifted, lowered, broken, sent, changed, is_unbroken, is_taken}
+use Rattle.zr_world_spec.specs.World.{Tagged, RouterState, EndState, ClientState, Ends, Routers, Clients, WorldState, with_routers, with_clients, with_ends, with_router, with_client, router_of, client_of, end_of, is_end, new_router, new_client, new_end, put_end, with_end, with_wire, with_queue, lifted, lowered, broken, sent, changed, is_taken}
 use Rattle.zr_world_spec.specs.Acts.{outcome, heard, sends_to, told_to as tells_to, having_told, weighing, declaring, undeclaring, up_event, peer_of, parent_line, source_line, shown_base, shown}
 use Rattle.zr_world_spec.specs.Moments.{Moment, went}
 use Rattle.zr_world_spec.specs.Sound.{AreUnique, IsSound}
 use Rattle.zr_guarantee.specs.Sent.{Told, told_in, told_to}
 use Rattle.zr_world_spec.proofs.Names.{names, value_new, read_after, read_kept}
-use Rattle.zr_world_spec.proofs.Ends.{ends, same_end, read_with_end, keep_with_end, read_put_end, read_changed, keep_changed}
+use Rattle.zr_world_spec.proofs.Ends.{ends, read_with_end, keep_with_end, read_put_end, read_changed, keep_changed}
 use Rattle.zr_world_spec.proofs.Links.{free_is_free, numbered_link}
 use Rattle.zr_world_spec.proofs.Clients.{same_received}
 use Rattle.zr_world_spec.proofs.Cases.{w_client, w_up, w_down, w_handle, w_sent, w_take, free_name, number_found, for_router, for_client, for_link, for_up, for_break, for_down, for_declare, for_undeclare, Says, Weighs, interest_says, uninterest_says, publish_says, get_says, reply_says, end_says, for_handle, for_take, for_mark, for_show}
@@ -52,9 +52,8 @@ use Rattle.zr_law_settled.proofs.Moving.{unbroken_at}
 use Rattle.zr_law_settled.proofs.Heard.{links_from}
 use Rattle.zr_law_settled.proofs.Ends.{other_end}
 use Rattle.zr_law_settled.proofs.ClientRows.{ClientsHold}
-use Rattle.zr_law_declared.proofs.Hearing.{keep_heard}
 use Rattle.zr_law_told.proofs.Readings.{told_of, msgs_in, waits, told_by, SameHomes, same_homes, home_was, same_taken, either_router, router_new, none_before}
-use Rattle.zr_law_told.proofs.Events.{to_router, no_link_down, no_link_new, not_down, not_cut, up_links, up_unique, down_links, down_unique, from_unique}
+use Rattle.zr_law_told.proofs.Events.{to_router, its_end, no_link_down, no_link_new, not_down, up_links, up_unique, down_links, down_unique, from_unique}
 use Rattle.zr_law_told.proofs.Told.{Informs, AreTold, new_informs, event_agrees, still, told_then, waits_then, router_informs, routers_then, hears_agrees, heard_told}
 
 -- ---- reports
@@ -90,7 +89,7 @@ shown_untold router node c =
     (none_told source_line c (λ log. refl) node.known.logs)
 
 reported : (v : WorldState) (report more : List ReportLine) → ((c : Name) → told_by more c ≡ told_by report c) → AreTold v report → AreTold v more
-reported v report more said t = still v report t v more t.routers (λ c e. e) said (λ c. refl) (λ c s client whole. record { whole = whole; told = refl; waiting = refl })
+reported v report more said t = still v report t v more t.routers (λ c e. e) said (λ c. refl) (λ c s client m is. record { told = refl; waiting = refl })
 
 -- ---- acts
 
@@ -112,7 +111,7 @@ module _ (now : Moment) (sound : IsSound now.world) (h : ClientsHold now.world) 
   router_comes id free = still w now.report t v now.report
       (λ x q is. either_router (λ q. Informs q.node q.told) (router_of w.routers x) q (new_router id) (is_named x id) (t.routers x) (new_informs id) (sym (routers x) ∙ is))
       taken (λ c. refl) (λ c. refl)
-      (λ c s client whole. record { whole = whole; told = router_new (λ o. told_of o c) w.routers id none refl s.router; waiting = refl })
+      (λ c s client m is. record { told = router_new (λ o. told_of o c) w.routers id none refl s.router; waiting = refl })
     where
       v : WorldState
       v = with_routers w (insert_entry (slice_cmp nat_cmp) w.routers id (new_router id))
@@ -132,7 +131,7 @@ module _ (now : Moment) (sound : IsSound now.world) (h : ClientsHold now.world) 
 
   linked : (one other : Name) (weight : ℕ) → there_in w one ≡ true → there_in w other ≡ true → AreTold (with_ends w (put_end (put_end w.ends (one, other) (new_end weight)) (other, one) (new_end weight))) now.report
   linked one other weight here there = still w now.report t (with_ends w es) now.report t.routers (λ c e. e) (λ c. refl) (λ c. refl)
-      (λ c s client whole. record { whole = sym (same unbroken_at s.router c s client) ∙ whole; told = refl; waiting = same waiting_at s.router c s client })
+      (λ c s client m is. record { told = refl; waiting = same waiting_at s.router c s client })
     where
       es : Ends
       es = put_end (put_end w.ends (one, other) (new_end weight)) (other, one) (new_end weight)
@@ -144,25 +143,12 @@ module _ (now : Moment) (sound : IsSound now.world) (h : ClientsHold now.world) 
           ∙ read_put_end w.ends (one, other) (new_end weight) f (x, c)
           ∙ ap (λ b. cond b (f (Some (new_end weight))) (f (end_of w.ends (x, c)))) (to_router w h one other x c s there client)
 
-  -- an end whose link is unbroken then isn't the one that breaks
-  unbroken_stays : {Y : Type 0} (f : Option EndState → Y) (es : Ends) (x y : Name) (q : End) → is_unbroken (changed es (x, y) broken) q ≡ true → f (end_of (changed es (x, y) broken) q) ≡ f (end_of es q)
-  unbroken_stays f es x y q whole =
-      read_changed es (x, y) broken f q
-      ∙ ap (λ b. cond b (f (option_map broken (end_of es q))) (f (end_of es q))) (false_from_ne_true (is_end (x, y) q) (λ e.
-      true≢false (sym whole ∙ read_changed es (x, y) broken unbroken_at q ∙ ap (λ b. cond b (unbroken_at (option_map broken (end_of es q))) (unbroken_at (end_of es q))) e ∙ cut (end_of es q))))
-    where
-      cut : (o : Option EndState) → unbroken_at (option_map broken o) ≡ false
-      cut None = refl
-      cut (Some s) = refl
-
+  -- what is queued at a link that breaks stays there
   breaks : (router name : Name) → AreTold (with_ends w (changed (changed w.ends (router, name) broken) (name, router) broken)) now.report
   breaks router name = still w now.report t (with_ends w (changed half (name, router) broken)) now.report t.routers (λ c e. e) (λ c. refl) (λ c. refl)
-      (λ c s client whole.
-      let first : is_unbroken half (s.router, c) ≡ true = sym (unbroken_stays unbroken_at half name router (s.router, c) whole) ∙ whole in
-      record {
-        whole = sym (unbroken_stays unbroken_at w.ends router name (s.router, c) first) ∙ first;
+      (λ c s client m is. record {
         told = refl;
-        waiting = unbroken_stays waiting_at half name router (s.router, c) whole ∙ unbroken_stays waiting_at w.ends router name (s.router, c) first;
+        waiting = keep_changed half (name, router) broken waiting_at (s.router, c) (λ e. refl) ∙ keep_changed w.ends (router, name) broken waiting_at (s.router, c) (λ e. refl);
       })
     where
       half : Ends
@@ -175,8 +161,7 @@ module _ (now : Moment) (sound : IsSound now.world) (h : ClientsHold now.world) 
         ((x c : Name) → told_of (router_of routers x) c ≡ told_of (router_of w.routers x) c) → SameHomes w.clients clients → AreTold (with_clients (with_routers (w_sent w n name s e msg) routers) clients) now.report
     said routers clients informs there told homes =
         still w now.report t v now.report informs (λ c free. sym (same_taken w v there homes c) ∙ free) (λ c. refl) homes
-        (λ c q client whole. record {
-          whole = sym (keep_with_end w.ends (s.router, name) (sent e msg n) unbroken_at (q.router, c) e at_end refl) ∙ whole;
+        (λ c q client m is. record {
           told = told q.router c;
           waiting = keep_with_end w.ends (s.router, name) (sent e msg n) waiting_at (q.router, c) e at_end refl;
         })
@@ -212,15 +197,12 @@ module _ (now : Moment) (sound : IsSound now.world) (h : ClientsHold now.world) 
   -- ---- a router hears of an event
 
   module _ (router : Name) (r : RouterState) (found : router_of w.routers router ≡ Some r) where
-    up_told : (n : ℕ) (name : Name) (s : EndState) → end_of w.ends (router, name) ≡ Some s → s.up ≡ false → AreTold (w_up w n router name r s) now.report
-    up_told n name s at_end down = heard_told w now.report t sound h router r found (up_event r (peer_of w name s.weight)) n es (up_unique w sound h router r found (peer_of w name s.weight) none)
-        (λ c q client whole.
-        let was : is_unbroken w.ends (q.router, c) ≡ true = sym (keep_heard es router r (up_event r (peer_of w name s.weight)) n unbroken_at (q.router, c) (λ e ws. refl)
-        ∙ keep_with_end w.ends (router, name) (lifted s) unbroken_at (q.router, c) s at_end refl) ∙ whole in
-        record {
-          whole = was;
+    up_told : (n : ℕ) (name : Name) (s : EndState) → end_of w.ends (router, name) ≡ Some s → s.unbroken ≡ true → s.up ≡ false → AreTold (w_up w n router name r s) now.report
+    up_told n name s at_end unbroken down = heard_told w now.report t sound h router r found (up_event r (peer_of w name s.weight)) n es (up_unique w sound h router r found (peer_of w name s.weight) none)
+        (λ c q client m is. record {
+          there = keep_with_end w.ends (router, name) (lifted s) is_some (q.router, c) s at_end refl ∙ sound.clients c q client;
           links = up_links w sound h router r found (peer_of w name s.weight) none c
-              ∙ ap (λ b. cond b (Some (new_link (record { 0 = free_link r.node.links }) (peer_of w name s.weight))) (link_to r.node.links c)) (not_down w sound h router r found name s at_end down c q client was);
+              ∙ ap (λ b. cond b (Some (new_link (record { 0 = free_link r.node.links }) (peer_of w name s.weight))) (link_to r.node.links c)) (other c q client);
           waiting = keep_with_end w.ends (router, name) (lifted s) waiting_at (q.router, c) s at_end refl;
         })
       where
@@ -230,17 +212,19 @@ module _ (now : Moment) (sound : IsSound now.world) (h : ClientsHold now.world) 
         none : link_to r.node.links name ≡ None
         none = no_link_down w sound h router r found name s at_end down
 
-    -- what was queued there is lost
-    down_told : (n : ℕ) (name : Name) (s : EndState) → end_of w.ends (router, name) ≡ Some s → s.unbroken ≡ false → (j : LinkPeer) → link_to r.node.links name ≡ Some j → AreTold (w_down w n router name r j.link) now.report
-    down_told n name s at_end cut j linked = still half now.report told v now.report told.routers (λ c e. e) (λ c. refl) (λ c. refl)
-        (λ c q client whole.
-        let first : is_unbroken half.ends (q.router, c) ≡ true = sym (keep_changed half.ends (router, name) lowered unbroken_at (q.router, c) (λ e. refl)) ∙ whole in
-        record {
-          whole = first;
+        -- a client's link that is unbroken is up
+        other : (c : Name) (q : ClientState) → client_of w.clients c ≡ Some q → is_named name c ≡ false
+        other c q client = false_from_ne_true (is_named name c) (λ same.
+            true≢false (sym same ∙ not_down w sound h router r found name s at_end down c q client (ap unbroken_at (its_end w sound h router r found name c q client same s at_end) ∙ unbroken)))
+
+    -- what was queued there is lost, and nothing is kept of what was told there
+    down_told : (n : ℕ) (name : Name) (s : EndState) → end_of w.ends (router, name) ≡ Some s → (j : LinkPeer) → link_to r.node.links name ≡ Some j → AreTold (w_down w n router name r j.link) now.report
+    down_told n name s at_end j linked = still half now.report told v now.report told.routers (λ c e. e) (λ c. refl) (λ c. refl)
+        (λ c q client m is. record {
           told = refl;
           waiting = read_changed half.ends (router, name) lowered waiting_at (q.router, c)
               ∙ ap (λ b. cond b (waiting_at (option_map lowered (end_of half.ends (q.router, c)))) (waiting_at (end_of half.ends (q.router, c))))
-              (other_end router q.router name c (not_cut w sound h router r found name s at_end cut c q client (before c q first)));
+              (other_end router q.router name c (other c q client m is));
         })
       where
         half : WorldState
@@ -249,21 +233,28 @@ module _ (now : Moment) (sound : IsSound now.world) (h : ClientsHold now.world) 
         v : WorldState
         v = w_down w n router name r j.link
 
-        before : (c : Name) (q : ClientState) → is_unbroken half.ends (q.router, c) ≡ true → is_unbroken w.ends (q.router, c) ≡ true
-        before c q whole = sym (keep_heard w.ends router r (Down j.link) n unbroken_at (q.router, c) (λ e ws. refl)) ∙ whole
+        -- a client that its router has a link to is another one
+        other : (c : Name) (q : ClientState) → client_of w.clients c ≡ Some q → (m : ToldMap) → told_of (router_of half.routers q.router) c ≡ Some m → is_named name c ≡ false
+        other c q client m is = false_from_ne_true (is_named name c) (λ same.
+            let home : q.router ≡ router = h.homes router c q client (ap is_some (ap (λ (y : Name). end_of w.ends (router, y)) (sym (same_is name c same)) ∙ at_end)) in
+            let gone : told_of (router_of half.routers router) c ≡ None =
+            told_then w now.report t sound h router r found (Down j.link) n w.ends (down_unique w sound h router r found j) router c
+            ∙ ap (λ b. cond b (told_of (Some (having_told r (Down j.link))) c) (told_of (router_of w.routers router) c)) (same_refl router)
+            ∙ ap (option_map (λ (l : LinkPeer). map_on (having_told r (Down j.link)).told l.link.0)) (down_links w sound h router r found name j linked c ∙ ap (λ b. cond b None (link_to r.node.links c)) same) in
+            true≢false (ap is_some (sym is ∙ ap (λ (x : Name). told_of (router_of half.routers x) c) home ∙ gone)))
 
         told : AreTold half now.report
         told = heard_told w now.report t sound h router r found (Down j.link) n w.ends (down_unique w sound h router r found j)
-            (λ c q client whole. record {
-              whole = before c q whole;
-              links = down_links w sound h router r found name j linked c ∙ ap (λ b. cond b None (link_to r.node.links c)) (not_cut w sound h router r found name s at_end cut c q client (before c q whole));
+            (λ c q client m is. record {
+              there = sound.clients c q client;
+              links = down_links w sound h router r found name j linked c ∙ ap (λ b. cond b None (link_to r.node.links c)) (other c q client m is);
               waiting = refl;
             })
 
     handled : (name : Name) (s : EndState) → end_of w.ends (router, name) ≡ Some s → (link : LinkNo) (msg : Msg) (tag : ℕ) (xs : List Tagged) → AreTold (w_handle w router name r s link msg tag xs) now.report
     handled name s at_end link msg tag xs = heard_told w now.report t sound h router r found (From link msg) tag es (from_unique w sound h router r found link msg)
-        (λ c q client whole. record {
-          whole = sym (keep_heard es router r (From link msg) tag unbroken_at (q.router, c) (λ e ws. refl) ∙ keep_with_end w.ends (router, name) (with_wire s xs) unbroken_at (q.router, c) s at_end refl) ∙ whole;
+        (λ c q client m is. record {
+          there = keep_with_end w.ends (router, name) (with_wire s xs) is_some (q.router, c) s at_end refl ∙ sound.clients c q client;
           links = ap (λ (ls : List LinkPeer). link_to ls c) (links_from r.node link msg);
           waiting = keep_with_end w.ends (router, name) (with_wire s xs) waiting_at (q.router, c) s at_end refl;
         })
@@ -276,7 +267,7 @@ module _ (now : Moment) (sound : IsSound now.world) (h : ClientsHold now.world) 
     client_comes n name free = record {
       routers = router_informs w now.report t sound h router r found event n es unique;
       fresh = λ c none. t.fresh c (was_free c none);
-      agrees = λ c q client whole m is. agrees c q m whole is (is_named c name) refl (sym (clients c) ∙ client);
+      agrees = λ c q client m is. agrees c q m is (is_named c name) refl (sym (clients c) ∙ client);
     }
       where
         peer : PeerState
@@ -312,9 +303,6 @@ module _ (now : Moment) (sound : IsSound now.world) (h : ClientsHold now.world) 
             ap (λ b. b || is_some (client_of w.clients c)) (sym (routers_then w now.report t sound h router r found event n es unique c) ∙ parts.0)
             ∙ none_before (is_named c name) (new_client router) (client_of w.clients c) (ap is_some (sym (clients c)) ∙ parts.1)
 
-        whole_then : (q : End) → is_unbroken v.ends q ≡ cond (is_end (router, name) q) true (is_unbroken w.ends q)
-        whole_then q = keep_heard es router r event n unbroken_at q (λ e ws. refl) ∙ read_put_end w.ends (router, name) (lifted (new_end 1)) unbroken_at q
-
         its_links : link_to (after r.node event).links name ≡ Some link
         its_links = up_links w sound h router r found peer no_link name ∙ ap (λ b. cond b (Some link) (link_to r.node.links name)) (same_refl name)
 
@@ -346,15 +334,15 @@ module _ (now : Moment) (sound : IsSound now.world) (h : ClientsHold now.world) 
                 ∙ ap (λ b. cond b (waits es router name ++ (sends_to r.node event name ++ tells_to r event name)) (waits es router name)) (same_refl router)
                 ∙ ap (λ o. waiting_at o ++ (sends_to r.node event name ++ tells_to r event name)) end_is
 
-        agrees : (c : Name) (q : ClientState) (m : ToldMap) → is_unbroken v.ends (q.router, c) ≡ true → told_of (router_of v.routers q.router) c ≡ Some m → (b : Bool) → is_named c name ≡ b →
+        agrees : (c : Name) (q : ClientState) (m : ToldMap) → told_of (router_of v.routers q.router) c ≡ Some m → (b : Bool) → is_named c name ≡ b →
             cond b (Some (new_client router)) (client_of w.clients c) ≡ Some q → Agrees m (leave (told_by now.report c ++ waits v.ends q.router c))
-        agrees c q m whole is true same client =
+        agrees c q m is true same client =
             let one : new_client router ≡ q = cc in
             subst (λ (z : ClientState). told_of (router_of v.routers z.router) c ≡ Some m → Agrees m (leave (told_by now.report c ++ waits v.ends z.router c))) one
             (subst (λ (y : Name). told_of (router_of v.routers router) y ≡ Some m → Agrees m (leave (told_by now.report y ++ waits v.ends router y))) (sym (same_is c name same)) (its_own m)) is
-        agrees c q m whole is false apart client = hears_agrees w now.report t sound h router r found event n es unique c q client whole
+        agrees c q m is false apart client = hears_agrees w now.report t sound h router r found event n es unique c q client
             (record {
-              whole = sym (whole_then (q.router, c) ∙ ap (λ b. cond b true (is_unbroken w.ends (q.router, c))) away) ∙ whole;
+              there = read_put_end w.ends (router, name) (lifted (new_end 1)) is_some (q.router, c) ∙ ap (λ b. cond b true (is_some (end_of w.ends (q.router, c)))) away ∙ sound.clients c q client;
               links = up_links w sound h router r found peer no_link c ∙ ap (λ b. cond b (Some link) (link_to r.node.links c)) other;
               waiting = read_put_end w.ends (router, name) (lifted (new_end 1)) waiting_at (q.router, c) ∙ ap (λ b. cond b [] (waits w.ends q.router c)) away;
             }) m is
@@ -389,13 +377,6 @@ module _ (now : Moment) (sound : IsSound now.world) (h : ClientsHold now.world) 
         es : Ends
         es = with_end w.ends (router, to) (with_queue s xs)
 
-    whole_before : (x c : Name) (q : ClientState) → client_of w.clients c ≡ Some q → is_unbroken taken_world.ends (x, c) ≡ true → is_unbroken w.ends (x, c) ≡ true
-    whole_before x c q client whole = by (is_end (router, to) (x, c)) refl (sym (taken_end unbroken_at x c q client) ∙ whole)
-      where
-        by : (b : Bool) → is_end (router, to) (x, c) ≡ b → cond b s.unbroken (is_unbroken w.ends (x, c)) ≡ true → is_unbroken w.ends (x, c) ≡ true
-        by true e u = ap (λ (q : End). is_unbroken w.ends q) (sym (same_end (router, to) (x, c) e)) ∙ ap unbroken_at at_end ∙ u
-        by false e u = u
-
     -- what was sent comes behind what was sent before, and the rest still waits
     taken_same : (c : Name) (q : ClientState) → client_of w.clients c ≡ Some q → told_by more c ++ waits taken_world.ends q.router c ≡ told_by now.report c ++ waits w.ends q.router c
     taken_same c q client =
@@ -423,10 +404,10 @@ module _ (now : Moment) (sound : IsSound now.world) (h : ClientsHold now.world) 
           told_more now.report router to msg tag c
           ∙ ap (λ b. told_by now.report c ++ cond b (msg ∷ []) []) (false_from_ne_true (is_named c to) (λ e. true≢false (sym there ∙ ap (is_taken w) (sym (same_is c to e)) ∙ was)))
           ∙ append-nil (told_by now.report c) ∙ t.fresh c was;
-      agrees = λ c q client whole m is.
+      agrees = λ c q client m is.
           let o = home_was w.clients taken_world.clients taken_homes c q client in
-          subst (λ (x : Name). is_unbroken taken_world.ends (x, c) ≡ true → told_of (router_of w.routers x) c ≡ Some m → Agrees m (leave (told_by more c ++ waits taken_world.ends x c))) o.2
-          (λ u e. subst (λ z. Agrees m (leave z)) (sym (taken_same c o.0 o.1)) (t.agrees c o.0 o.1 (whole_before o.0.router c o.0 o.1 u) m e)) whole is;
+          subst (λ (x : Name). told_of (router_of w.routers x) c ≡ Some m → Agrees m (leave (told_by more c ++ waits taken_world.ends x c))) o.2
+          (λ e. subst (λ z. Agrees m (leave z)) (sym (taken_same c o.0 o.1)) (t.agrees c o.0 o.1 m e)) is;
     }
 
   -- ---- the acts
@@ -436,11 +417,11 @@ module _ (now : Moment) (sound : IsSound now.world) (h : ClientsHold now.world) 
   tells_keep n (a.Router id) = for_router now TellsThen id (λ free room. alone _ (router_comes id free))
   tells_keep n (a.Client id router) = for_client now TellsThen n id router (λ r found free room taken. alone _ (client_comes router r found n id free))
   tells_keep n (a.Link one other weight) = for_link now TellsThen one other weight (λ apart r found q found' new room. alone _ (linked one other weight (ap is_some found) (ap is_some found')))
-  tells_keep n (a.Up router name) = for_up now TellsThen n router name (λ r found there s at_end unbroken down taken. alone _ (up_told router r found n name s at_end down))
+  tells_keep n (a.Up router name) = for_up now TellsThen n router name (λ r found there s at_end unbroken down taken. alone _ (up_told router r found n name s at_end unbroken down))
   tells_keep n (a.Break router name) = for_break now TellsThen router name (λ r found there s at_end unbroken. alone _ (breaks router name))
   tells_keep n (a.Down router name) = for_down now TellsThen n router name (λ r found there s at_end up cut link number taken.
       let j = number_found r name link number in
-      subst (λ q. AreTold (w_down w n router name r q) (now.report ++ [])) j.2 (alone _ (down_told router r found n name s at_end cut j.0 j.1)))
+      subst (λ q. AreTold (w_down w n router name r q) (now.report ++ [])) j.2 (alone _ (down_told router r found n name s at_end j.0 j.1)))
   tells_keep n (a.Sub client id key) = for_declare now TellsThen n client k.Sub id key (m.Sub id key) (λ s found fresh e at_end unbroken r there room.
       alone _ (weighed n client s e at_end (m.Sub id key) key r there (with_client w.clients client (declaring s k.Sub id)) (one_home client s (declaring s k.Sub id) found refl)))
   tells_keep n (a.Unsub client id) = for_undeclare now TellsThen n client k.Sub id (m.Unsub id) (λ s found known e at_end unbroken.

@@ -18,7 +18,7 @@ use Rattle.zr_told_spec.specs.Rows.{Maps, map_on, others, IsAsWanted}
 use Rattle.zr_told_spec.specs.Told.{ToldMap, heard as leave}
 use Rattle.zr_told_spec.proofs.Hubs.{heard_on, hub_keeps, hub_is_as_wanted, hub_forgets}
 use Rattle.zr_script_spec.specs.declared.report.ReportLine.{ReportLine}
-use Rattle.zr_world_spec.specs.World.{RouterState, EndState, ClientState, Ends, WorldState, with_ends, router_of, client_of, end_of, new_router, is_unbroken, is_taken}
+use Rattle.zr_world_spec.specs.World.{RouterState, EndState, ClientState, Ends, WorldState, with_ends, router_of, client_of, end_of, new_router, is_taken}
 use Rattle.zr_world_spec.specs.Acts.{hub_of, sends_to, told_to, having_told, all_queued, heard}
 use Rattle.zr_world_spec.specs.Sound.{AreUnique, IsSound}
 use Rattle.zr_world_spec.proofs.Names.{read_after, read_kept}
@@ -26,10 +26,8 @@ use Rattle.zr_world_spec.proofs.Ends.{with_waiting, with_sent, waiting_is, all_q
 use Rattle.zr_world_spec.proofs.Links.{numbered_link}
 use Rattle.zr_law_settled.proofs.Spreading.{Name}
 use Rattle.zr_law_settled.proofs.Worlds.{queue_at}
-use Rattle.zr_law_settled.proofs.Quiet.{passes_there}
-use Rattle.zr_law_settled.proofs.Moving.{unbroken_at}
 use Rattle.zr_law_settled.proofs.ClientRows.{ClientsHold}
-use Rattle.zr_law_declared.proofs.Hearing.{keep_heard, heard_router}
+use Rattle.zr_law_declared.proofs.Hearing.{heard_router}
 use Rattle.zr_law_told.proofs.Readings.{told_of, msgs_in, waits, told_by, msgs_more, SameHomes, home_was, same_taken, either_router}
 
 -- ---- the invariant
@@ -39,12 +37,13 @@ pub record Informs (node : NodeState) (told : Maps) : Type 0 where
   pub wanted : (k : ℕ) → leads_to_client node.links k ≡ true → IsAsWanted (others (tables node) k) (interests_on node.clients k) (map_on told k)
   pub forgotten : (k : ℕ) → leads_to_client node.links k ≡ false → map_on told k ≡ []
 
--- Nothing was sent under a name that is free; and of a client whose link is unbroken, what it was sent and what waits for it leave what it was told.
+-- Nothing was sent under a name that is free; and of a client that its router has a link to, what it was sent and what waits for it leave what it was
+-- told.
 pub record AreTold (w : WorldState) (report : List ReportLine) : Type 0 where
   pub routers : (x : Name) (r : RouterState) → router_of w.routers x ≡ Some r → Informs r.node r.told
   pub fresh : (c : Name) → is_taken w c ≡ false → told_by report c ≡ []
-  pub agrees : (c : Name) (s : ClientState) → client_of w.clients c ≡ Some s → is_unbroken w.ends (s.router, c) ≡ true → (m : ToldMap) →
-      told_of (router_of w.routers s.router) c ≡ Some m → Agrees m (leave (told_by report c ++ waits w.ends s.router c))
+  pub agrees : (c : Name) (s : ClientState) → client_of w.clients c ≡ Some s → (m : ToldMap) → told_of (router_of w.routers s.router) c ≡ Some m →
+      Agrees m (leave (told_by report c ++ waits w.ends s.router c))
 
 -- ---- routers
 
@@ -71,24 +70,23 @@ module _ (r : RouterState) (event : Event) (c : Name) (l : LinkPeer) (to : link_
 
 -- what is read of a client's end and of its router stays
 pub record Stays (w v : WorldState) (x c : Name) : Type 0 where
-  pub whole : is_unbroken w.ends (x, c) ≡ true
   pub told : told_of (router_of v.routers x) c ≡ told_of (router_of w.routers x) c
   pub waiting : waits v.ends x c ≡ waits w.ends x c
 
 module _ (w : WorldState) (report : List ReportLine) (t : AreTold w report) where
   pub still : (v : WorldState) (more : List ReportLine) → ((x : Name) (r : RouterState) → router_of v.routers x ≡ Some r → Informs r.node r.told) → ((c : Name) → is_taken v c ≡ false → is_taken w c ≡ false) →
       ((c : Name) → told_by more c ≡ told_by report c) → SameHomes w.clients v.clients →
-      ((c : Name) (s : ClientState) → client_of w.clients c ≡ Some s → is_unbroken v.ends (s.router, c) ≡ true → Stays w v s.router c) → AreTold v more
+      ((c : Name) (s : ClientState) → client_of w.clients c ≡ Some s → (m : ToldMap) → told_of (router_of v.routers s.router) c ≡ Some m → Stays w v s.router c) → AreTold v more
   still v more routers taken said homes each = record {
     routers = routers;
     fresh = λ c free. said c ∙ t.fresh c (taken c free);
-    agrees = λ c q client whole m is.
+    agrees = λ c q client m is.
         let s = home_was w.clients v.clients homes c q client in
-        subst (λ (x : Name). is_unbroken v.ends (x, c) ≡ true → told_of (router_of v.routers x) c ≡ Some m → Agrees m (leave (told_by more c ++ waits v.ends x c))) s.2
-        (λ u e.
-        let k = each c s.0 s.1 u in
-        subst (λ ms. Agrees m (leave ms)) (sym (ap (λ z. z ++ waits v.ends s.0.router c) (said c) ∙ ap (λ z. told_by report c ++ z) k.waiting)) (t.agrees c s.0 s.1 k.whole m (sym k.told ∙ e)))
-        whole is;
+        subst (λ (x : Name). told_of (router_of v.routers x) c ≡ Some m → Agrees m (leave (told_by more c ++ waits v.ends x c))) s.2
+        (λ e.
+        let k = each c s.0 s.1 m e in
+        subst (λ ms. Agrees m (leave ms)) (sym (ap (λ z. z ++ waits v.ends s.0.router c) (said c) ∙ ap (λ z. told_by report c ++ z) k.waiting)) (t.agrees c s.0 s.1 m (sym k.told ∙ e)))
+        is;
   }
 
   -- ---- a router hears of an event
@@ -122,19 +120,16 @@ module _ (w : WorldState) (report : List ReportLine) (t : AreTold w report) wher
 
     -- what is read of the end of a client before the event, but for that it is told
     pub record Hears (c x : Name) : Type 0 where
-      pub whole : is_unbroken w.ends (x, c) ≡ true
+      pub there : is_some (end_of es (x, c)) ≡ true
       pub links : link_to (after r.node event).links c ≡ link_to r.node.links c
       pub waiting : waits es x c ≡ waits w.ends x c
 
-    there_then : (x c : Name) → is_unbroken then.ends (x, c) ≡ true → is_some (end_of es (x, c)) ≡ true
-    there_then x c whole = passes_there (λ s. s.unbroken) es (x, c) (sym (keep_heard es a r event tag unbroken_at (x, c) (λ e ws. refl)) ∙ whole)
-
-    pub hears_agrees : (c : Name) (s : ClientState) → client_of w.clients c ≡ Some s → is_unbroken then.ends (s.router, c) ≡ true → Hears c s.router → (m : ToldMap) →
+    pub hears_agrees : (c : Name) (s : ClientState) → client_of w.clients c ≡ Some s → Hears c s.router → (m : ToldMap) →
         told_of (router_of then.routers s.router) c ≡ Some m → Agrees m (leave (told_by report c ++ waits then.ends s.router c))
-    hears_agrees c s client whole k m is = by (is_named a s.router) refl (sym (told_then s.router c) ∙ is) (waits_then s.router c (there_then s.router c whole))
+    hears_agrees c s client k m is = by (is_named a s.router) refl (sym (told_then s.router c) ∙ is) (waits_then s.router c k.there)
       where
         before : (z : ToldMap) → told_of (router_of w.routers s.router) c ≡ Some z → Agrees z (leave (told_by report c ++ waits es s.router c))
-        before z e = subst (λ ms. Agrees z (leave (told_by report c ++ ms))) (sym k.waiting) (t.agrees c s client k.whole z e)
+        before z e = subst (λ ms. Agrees z (leave (told_by report c ++ ms))) (sym k.waiting) (t.agrees c s client z e)
 
         told_here : is_named a s.router ≡ true → (o : Option LinkPeer) → link_to r.node.links c ≡ o → option_map (λ l. map_on (having_told r event).told l.link.0) o ≡ Some m →
             Agrees m (leave ((told_by report c ++ waits es s.router c) ++ (sends_to r.node event c ++ told_to r event c)))
@@ -165,9 +160,9 @@ module _ (w : WorldState) (report : List ReportLine) (t : AreTold w report) wher
     routers_then c = heard_router is_some w.routers a c r event ∙ read_kept is_some w.routers a c r (having_told r event) found refl
 
     -- no client comes
-    pub heard_told : ((c : Name) (s : ClientState) → client_of w.clients c ≡ Some s → is_unbroken then.ends (s.router, c) ≡ true → Hears c s.router) → AreTold then report
+    pub heard_told : ((c : Name) (s : ClientState) → client_of w.clients c ≡ Some s → (m : ToldMap) → told_of (router_of then.routers s.router) c ≡ Some m → Hears c s.router) → AreTold then report
     heard_told each = record {
       routers = router_informs;
       fresh = λ c free. t.fresh c (sym (same_taken w then routers_then (λ c. refl) c) ∙ free);
-      agrees = λ c s client whole m is. hears_agrees c s client whole (each c s client whole) m is;
+      agrees = λ c s client m is. hears_agrees c s client (each c s client m is) m is;
     }
