@@ -16,6 +16,7 @@ ghost use Rattle.zr_law_declared.specs.Sets.{SettledSetsAreDeclared};
 ghost use Rattle.zr_law_replies.specs.Answers.{AnswersAlwaysHold};
 ghost use Rattle.zr_law_fans.specs.Scripts.{FansArePlain, FansEnd};
 ghost use Rattle.zr_law_histories.specs.Histories.{RunningRoutersAreAWorld};
+ghost use Rattle.zr_law_histories.specs.Maps.{ReplayedMapsAreHeard};
 ghost use Rattle.zr_law_histories.specs.Packing.{QueuesArePacked};
 ghost use Rattle.zr_law_keys.specs.Laws.{MatchingIsOfCharacters, MeetingIsOfCharacters};
 ghost use Rattle.zr_law_names.specs.Alike.{StepsAreAlike};
@@ -26,6 +27,7 @@ ghost use Rattle.zr_law_joined.specs.Laws.{RunsSettleAsWorlds, SettledRunsHavePh
 ghost use Rattle.zr_law_running.specs.Laws.{RunsAreOfAWorld};
 ghost use Rattle.zr_law_settled.specs.Events.{NoEventIsRefused};
 ghost use Rattle.zr_law_settled.specs.Tables.{AgreeWhereSettled, SettledLogsAgree};
+ghost use Rattle.zr_law_told.specs.Maps.{ToldMapsAreHeard};
 ghost use Rattle.zr_netrun.specs.Clauses.{OfLines, OfScriptLines, ReportsBeforeReads, WritesAsAsked};
 ghost use Rattle.zr_pend_spec.specs.Best.{GatheredIsBest};
 ghost use Rattle.zr_rules.specs.Carets.{CaretsAreUnderWrongKeys, CaretsAreUnderWrongWords};
@@ -50,7 +52,7 @@ use zr_law_declared::{
 };
 use zr_law_fans::{fans_are_plain, fans_end};
 use zr_law_held::{lines_are_within, lines_fit};
-use zr_law_histories::{queues_are_packed, running_routers_are_a_world};
+use zr_law_histories::{queues_are_packed, replayed_maps_are_heard, running_routers_are_a_world};
 use zr_law_joined::{runs_settle_as_worlds, settled_runs_have_phases};
 use zr_law_keys::{matching_is_of_characters, meeting_is_of_characters};
 use zr_law_names::{names_change_nothing, steps_are_alike, trees_change_nothing};
@@ -63,7 +65,7 @@ use zr_law_samples::keys::{
 use zr_law_samples::refines::{lines_are_moments, phases_deliver};
 use zr_law_samples::runs::rest_is_quiet;
 use zr_law_settled::{settled_logs_agree, settled_tables_agree};
-use zr_law_told::{lines_tell_clients, lines_tell_tokens};
+use zr_law_told::{lines_tell_clients, lines_tell_tokens, told_maps_are_heard};
 use zr_link_job::ServeJob;
 use zr_netrun::status::Status;
 use zr_outside::host::Host;
@@ -107,7 +109,8 @@ use zr_tree::laws::{distances_are_of_shortest_walks, records_make_graphs};
 /// it reaches (`logs`), so just what the clients attached there have declared (`sets`); its own rows are what its clients have declared, key and kind
 /// (`rows`); no router refuses an event that may come to it (`taken`); and at each moment both ends of a link agree on each number of a request (`numbers`):
 /// it is free, or asked, or kept with some replies on their way back, or ended with the final behind them; and each reply and each final that a client was sent
-/// is that of its query of that turn (`answers`).
+/// is that of its query of that turn (`answers`). At each moment, and after each legal history of a router that runs, a router keeps of each client that it
+/// has a link to just what the messages leave that it has put there (`maps`).
 ///
 /// Of several routers that run, each on its own, the clause `running` says that what they do is the run of a script's world, as long as their links keep order
 /// and lose nothing, and their histories leave nothing out and close no link. There each router's tables are the replay of its own history, but for the names
@@ -161,6 +164,7 @@ where
     ensures taken { NoEventIsRefused }
     ensures numbers { NumbersAlwaysHold }
     ensures answers { AnswersAlwaysHold }
+    ensures maps { ToldMapsAreHeard × ReplayedMapsAreHeard }
     ensures meeting { AskingIsMeeting }
     ensures answering { AnsweringIsMeeting }
     ensures covering { AnsweringIsCovering }
@@ -233,6 +237,8 @@ where
     carets_are_under_wrong_words();
     carets_are_under_wrong_keys();
     answers_always_hold();
+    told_maps_are_heard();
+    replayed_maps_are_heard();
     lines_refine();
     lines_fit();
     lines_are_within();
