@@ -1,8 +1,4 @@
-"""Cases of hostile or unlucky use that a router doesn't stand yet, by `tests/serve --known`; each says what is to hold.
-
-One that has come to pass moves to the cases of `tests/serve`. `unlinked_records`, `steady_reader`, `slow_reader_across`, `out_of_memory` and
-`restarted_under_its_identifier` are among those already.
-"""
+"""Cases of hostile or unlucky use for `tests/serve`; each says what is to hold."""
 import contextlib
 import multiprocessing
 import resource
@@ -22,6 +18,7 @@ STANDSTILL = 1  # second without an answer; where rows are searched one by one i
 PACE, STEADY = 1 / 300, 15  # seconds between two samples that are read, and for which it goes on
 AHEAD = 400_000  # bytes that are published in one write
 SMALL_BUFFER = 16_384  # bytes of a socket; the system doubles it
+FREED = 1  # second until the identifier of a client that left is free
 FILLING, FILLINGS, AT_ONCE = b"." * 16_000, 1_000, 1  # a sample, and how many are more than a ring and the buffers of sockets hold; seconds
 MOST_ASKED = 1.5  # seconds within which a router asks what it has heard
 SPARE, PRESSED = 48 << 20, 1  # bytes that a router has left, and seconds for which clients ask for more
@@ -292,6 +289,19 @@ def told_behind_samples():
         must(watcher.receive_told(MOST_WAIT), Told(pubsub.TOKEN, 1, "fleet/0b"), "what is told")
 
 
+def leaver_behind_samples():
+    """A client that leaves frees its identifier within a second, though one that is to be told of it reads nothing and its ring is full."""
+    with Router("01") as router:
+        watcher, robot = small(router), router.client("0c")
+        interest = watcher.declare_interest("fleet/**", kinds=pubsub.TOKENS)
+        told(watcher, Told(pubsub.ALL_TOLD, interest=interest))
+        robot.declare_token("fleet/0b")
+        told(watcher, Told(pubsub.TOKEN, 1, "fleet/0b"))
+        with full_ring(router, watcher):
+            robot.link.close()
+            until(lambda: takes(router, "0c"), "the identifier can come again", FREED)
+
+
 def sure_behind_samples():
     """A sample that may not be dropped meets a ring that is full of others: it waits until the subscriber reads, and nobody else does."""
     with Router("01") as router:
@@ -357,7 +367,3 @@ def answer_until(replier, end):
                 replier.reply(query, "plan", b"north")
                 replier.end(query)
 
-
-KNOWN = [
-    *(reply_behind_samples, told_behind_samples, sure_behind_samples, replies_in_a_flood),
-]

@@ -1,16 +1,24 @@
 //! The shared router: tables under a lock, and the bells of the links' writers beside it.
 
-ghost use Rattle.std.specs.Prelude.{◌≡◌, [], length};
-ghost use Rattle.zr_hist.specs.Words.{kept_name, list_of, name};
-ghost use Rattle.zr_router.specs.Refusals.{most_sessions};
+ghost use Rattle.std.specs.Prelude.{◌≡◌, ◌<◌, List, [], true, length, IfErr, OnOk};
+ghost use Rattle.std.specs.List.{AllByRecursion};
+ghost use Rattle.std.specs.Vec.Iter.{into_iter_items, into_iter_len};
+ghost use Rattle.zr_hist.specs.Words.{IsSamePass, kept_name, list_of, name, pass_name, seen};
+ghost use Rattle.zr_msg.specs.declared.msg.Msg.{Msg};
+ghost use Rattle.zr_port.specs.Coming.{ComesUpTo, StopsAt, sight};
+ghost use Rattle.zr_router_queue.specs.History.{is_legal};
+ghost use Rattle.zr_wire.specs.Writing.{IsSpelled};
+ghost use Rattle.zr_router.specs.Allowed.{are_allowed};
+ghost use Rattle.zr_router.specs.Refusals.{RefusesMessage, most_sessions};
 
 use crate::admit::MOST_SESSIONS;
 use crate::tables::{Due, Tables};
 use std::alloc::{AllocError, Global};
 use std::marker::PhantomData;
-use std::sync::{Mutex, Wait};
+use std::sync::{Mutex, MutexGuard, Wait};
 use std::thread::Parker;
 use std::time::Duration;
+use std::vec;
 use zr_access::Policy;
 use zr_frame::Outbox;
 use zr_glance::Glance;
@@ -24,6 +32,10 @@ use zr_port::{DeliverError, DownError, Entry, Naming, Port, UpError};
 use zr_port_glance::Glancing;
 use zr_ring::Taker;
 use zr_router_queue::Queued;
+use zr_router_room::{Coming, Pace, Patience};
+
+/// How often a thread looks at most whether the event that it brings has room: more often than any patience lasts.
+const MOST_LOOKS: u32 = 16_384;
 
 /// A router that many threads share. Each call works on the tables under their lock and wakes the links' writers once it is free again; only
 /// `split` and `join` take no lock. Where an event leaves a ring crowded, its thread rests for a moment, so that a writer which wasn't scheduled at once
@@ -92,6 +104,130 @@ impl<B: Naming, R: Wait + Drop> Router<B, R> {
         }
     }
 
+    // Locks the tables for an event that comes over a link. Where it may need a ring that has too little room, this thread lets the lock go and looks anew in a
+    // while, as long as its patience lasts. So events that go elsewhere don't wait.
+    fn lock_for(
+        &self,
+        link: LinkNo,
+        coming: Coming<'_>,
+        patience: &mut Patience,
+    ) -> MutexGuard<'_, Tables<B>> {
+        let parker = Parker::new();
+        for _ in 0..MOST_LOOKS {
+            let mut tables = self.tables.lock(&self.rt);
+            let outlook = tables.outlook(self.alloc, link, coming);
+            let most_ms = tables.most_wait_ms(link, coming);
+            let Some(rest_ms) = patience.rest_ms(outlook, tables.moves(), most_ms) else {
+                if patience.has_asked() {
+                    tables.release();
+                }
+                return tables;
+            };
+            drop(tables);
+            parker.park_timeout(&self.rt, Duration::from_millis(rest_ms));
+        }
+        let mut tables = self.tables.lock(&self.rt);
+        tables.release();
+        tables
+    }
+
+    // How fast these messages, which come over a link, are delivered.
+    fn pace_of(&self, link: LinkNo, messages: &[Msg]) -> Pace {
+        if messages.len() < 2 {
+            return Pace::of(messages, 0); // a single one is looked at alone anyway
+        }
+        Pace::of(messages, self.clear_of(link, messages))
+    }
+
+    // The links, a bit for each, for whose rings an event waits or which are half full, and which none of these messages reaches. The lock is free between any two.
+    fn clear_of(&self, link: LinkNo, messages: &[Msg]) -> u128 {
+        let tables = self.tables.lock(&self.rt);
+        let mut clear_of = tables.asked();
+        drop(tables);
+        for msg in messages {
+            if clear_of == 0 {
+                break;
+            }
+            let tables = self.tables.lock(&self.rt);
+            clear_of = tables.clear_of(link, msg, clear_of);
+            drop(tables);
+        }
+        clear_of
+    }
+
+    // Some more of the messages that have come over a link, at least one: where a ring is pressed, one that waits for its room.
+    fn deliver_more(
+        &self,
+        pass: &mut Pass<Entry>,
+        link: LinkNo,
+        rest: &mut vec::IntoIter<Msg>,
+        pace: &mut Pace,
+    ) -> Result<(), DeliverError>
+        requires pass { pass_name pass.old ≡ B.history }
+        requires spelled { AllByRecursion IsSpelled (into_iter_items rest.old) }
+        requires counted { into_iter_len rest.old ≡ length (into_iter_items rest.old) }
+        requires some { 0 < into_iter_len rest.old }
+        ensures same { IsSamePass pass.old pass.new }
+        ensures legal { is_legal B.me (seen pass.new) ≡ true }
+        ensures allowed { are_allowed B.policy B.me (seen pass.new) ≡ true }
+        ensures delivered { OnOk result (ComesUpTo link (λ h m e. RefusesMessage B.policy B.me h link m e) (into_iter_items rest.old) (into_iter_items rest.new) (sight pass.old) (sight pass.new)) }
+        ensures left { OnOk result (AllByRecursion IsSpelled (into_iter_items rest.new) × (into_iter_len rest.new ≡ length (into_iter_items rest.new))) }
+        ensures fewer { OnOk result (into_iter_len rest.new < into_iter_len rest.old) }
+        ensures stopped { IfErr result (λ e. (more : List Msg) × ComesUpTo link (λ h m x. RefusesMessage B.policy B.me h link m x) (into_iter_items rest.old) more (sight pass.old) (sight pass.new) × StopsAt (λ m x. RefusesMessage B.policy B.me (seen pass.new) link m x) more e) }
+    {
+        let mut tables = self.tables.lock(&self.rt);
+        if tables.is_pressed(pace) {
+            drop(tables);
+            return self.deliver_next(pass, link, rest, pace);
+        }
+        let result = tables.deliver_some(self.alloc, &self.history, pass, link, rest);
+        let most = tables.most_rest_ms(link);
+        let due = tables.take_due();
+        drop(tables);
+        self.follow(Due {
+            links: due.links,
+            rest_ms: pace.rest_ms(due.rest_ms, most),
+        });
+        result
+    }
+
+    // The next of the messages that have come over a link.
+    fn deliver_next(
+        &self,
+        pass: &mut Pass<Entry>,
+        link: LinkNo,
+        rest: &mut vec::IntoIter<Msg>,
+        pace: &mut Pace,
+    ) -> Result<(), DeliverError>
+        requires pass { pass_name pass.old ≡ B.history }
+        requires spelled { AllByRecursion IsSpelled (into_iter_items rest.old) }
+        requires counted { into_iter_len rest.old ≡ length (into_iter_items rest.old) }
+        requires some { 0 < into_iter_len rest.old }
+        ensures same { IsSamePass pass.old pass.new }
+        ensures legal { is_legal B.me (seen pass.new) ≡ true }
+        ensures allowed { are_allowed B.policy B.me (seen pass.new) ≡ true }
+        ensures delivered { OnOk result (ComesUpTo link (λ h m e. RefusesMessage B.policy B.me h link m e) (into_iter_items rest.old) (into_iter_items rest.new) (sight pass.old) (sight pass.new)) }
+        ensures left { OnOk result (AllByRecursion IsSpelled (into_iter_items rest.new) × (into_iter_len rest.new ≡ length (into_iter_items rest.new))) }
+        ensures fewer { OnOk result (into_iter_len rest.new < into_iter_len rest.old) }
+        ensures stopped { IfErr result (λ e. (more : List Msg) × ComesUpTo link (λ h m x. RefusesMessage B.policy B.me h link m x) (into_iter_items rest.old) more (sight pass.old) (sight pass.new) × StopsAt (λ m x. RefusesMessage B.policy B.me (seen pass.new) link m x) more e) }
+    {
+        let Some(msg) = rest.next() else {
+            unreachable!()
+        };
+        pace.patience.next();
+        let mut tables = self.lock_for(link, Coming::Message(&msg), &mut pace.patience);
+        let result = tables.deliver_next(self.alloc, &self.history, pass, link, msg);
+        let most = tables.most_rest_ms(link);
+        let due = tables.take_due();
+        drop(tables);
+        pace.came();
+        self.follow(Due {
+            links: due.links,
+            rest_ms: pace.rest_ms(due.rest_ms, most),
+        });
+        result
+    }
+
     // Wakes the writers of these links.
     fn ring(&self, links: u128) {
         let mut rest = links;
@@ -145,7 +281,8 @@ impl<B: Naming, R: Wait + Drop> Port for Router<B, R> {
     }
 
     fn deliver(&self, pass: &mut Pass<Entry>, link: LinkNo, msg: Msg) -> Result<(), DeliverError> {
-        let mut tables = self.tables.lock(&self.rt);
+        let mut patience = Patience::brief();
+        let mut tables = self.lock_for(link, Coming::Message(&msg), &mut patience);
         let result = tables.deliver(self.alloc, &self.history, pass, link, msg);
         let due = tables.take_due();
         drop(tables);
@@ -159,21 +296,10 @@ impl<B: Naming, R: Wait + Drop> Port for Router<B, R> {
         link: LinkNo,
         messages: Vec<Msg>,
     ) -> Result<(), DeliverError> {
+        let mut pace = self.pace_of(link, messages.as_slice());
         let mut rest = messages.into_iter();
-        let mut rested = 0u64;
         while rest.len() > 0 {
-            let mut tables = self.tables.lock(&self.rt);
-            let result = tables.deliver_some(self.alloc, &self.history, pass, link, &mut rest);
-            let most = tables.most_rest_ms(link);
-            let due = tables.take_due();
-            drop(tables);
-            let rest_ms = due.rest_ms.min(most.saturating_sub(rested));
-            rested = rested.saturating_add(rest_ms);
-            self.follow(Due {
-                links: due.links,
-                rest_ms,
-            });
-            if let Err(e) = result {
+            if let Err(e) = self.deliver_more(pass, link, &mut rest, &mut pace) {
                 drop(rest);
                 return Err(e);
             }
@@ -188,7 +314,8 @@ impl<B: Naming, R: Wait + Drop> Port for Router<B, R> {
         link: LinkNo,
         reason: Option<u8>,
     ) -> Result<(), DownError> {
-        let mut tables = self.tables.lock(&self.rt);
+        let mut patience = Patience::new();
+        let mut tables = self.lock_for(link, Coming::Down, &mut patience);
         let result = tables.down(self.alloc, &self.history, pass, link, reason);
         let due = tables.take_due();
         drop(tables);

@@ -1,7 +1,7 @@
 //! The tables under a router's lock, and the three calls on them. Each looks at the history first, so that every refusal speaks of all that has
 //! happened.
 
-ghost use Rattle.std.specs.Prelude.{◌≡◌, ◌≢◌, ◌↔◌, ◌⊎◌, ◌<◌, ◌==◌, ◌++◌, ◌∷◌, [], not, filter, false, true, length, Err, IfErr, IfOk, OnErr, OnOk, List, Some, None, is_err};
+ghost use Rattle.std.specs.Prelude.{◌≡◌, ◌≢◌, ◌↔◌, ◌⊎◌, ◌<◌, ◌==◌, ◌++◌, ◌∷◌, [], All, not, filter, false, true, length, Err, IfErr, IfOk, OnErr, OnOk, List, Some, None, is_err};
 ghost use mathlib.Core.List.{IsPrefix};
 ghost use Rattle.std.specs.List.{AllByRecursion};
 ghost use Rattle.std.specs.Vec.Iter.{into_iter_items, into_iter_len};
@@ -29,15 +29,19 @@ ghost use Rattle.zr_router.specs.Glance.{glance};
 ghost use Rattle.zr_router.specs.Handled.{IsHandled};
 ghost use Rattle.zr_router.specs.Ended.{HasEnded};
 ghost use Rattle.zr_router.specs.Replayed.{IsReplay-prop, HoldsSpelled-prop};
-ghost use Rattle.zr_router_queue.specs.Writable.{HoldsSpelled};
+ghost use Rattle.zr_router_queue.specs.Writable.{HoldsSpelled, IsWritable};
 ghost use Rattle.zr_router.specs.Judged.{is_judged};
 ghost use Rattle.zr_router.specs.Runs.{IsStep, RunsUpTo};
 ghost use Rattle.zr_router.specs.Refusals.{RefusesDown, RefusesMessage, RefusesUp, down_refusal, is_worn, most_sessions, peer_refusal};
 
-use crate::admit::{MOST_SESSIONS, node_refusal, refuses_down, refuses_message, refuses_peer};
+use crate::admit::{node_refusal, refuses_down, refuses_message, refuses_peer};
 use crate::ends::{closing_of, taken_out};
 use crate::failure::Failure;
 use crate::former::tells_former;
+use crate::rests::{
+    MOST_DOWN_WAIT_MS, crowds_of, due_of, kept_at, most_rest_ms, most_wait_ms, parcel_each,
+    pressed_by, rest_for,
+};
 use std::alloc::{AllocError, Global};
 use std::marker::PhantomData;
 use std::vec;
@@ -56,13 +60,10 @@ use zr_ring::{Giver, Taker};
 use zr_router_core::hub::Hub;
 use zr_router_glance::glance_at;
 use zr_router_queue::{LinkSender, Queued, enter, prepare};
+use zr_router_room::{Askers, Coming, Crowds, Outlook, Pace, View, bit_of};
 
 /// How many entries a history has at most.
 const MOST_ENTRIES: u64 = u64::MAX;
-
-/// For how long at most who reads from another router rests for all that one read gave, in milliseconds: that router closes a link on which it can't
-/// write for ten seconds, and many clients are behind it.
-const MOST_ROUTER_REST_MS: u64 = 100;
 
 /// How many messages are delivered at most while the tables are locked once.
 const MOST_HELD: u32 = 64;
@@ -83,6 +84,12 @@ pub struct Tables<B: Naming> {
     presses: bool,
     // whether the router has heard that its identifier was in use before
     used_before: bool,
+    askers: Askers,
+    // the links whose rings the last event that had something for them has left half full, and those whose rings an event that has come waits for
+    pressed: u128,
+    wanted: u128,
+    // how many events have got in that had waited
+    moves: u64,
     is_spent: bool,
     of: PhantomData<B>,
     ghost named: { kept_name kept ≡ B.history },
@@ -108,6 +115,10 @@ impl<B: Naming> Drop for Tables<B> {
             rest_ms: _rest_ms,
             presses: _presses,
             used_before: _used_before,
+            askers: _askers,
+            pressed: _pressed,
+            wanted: _wanted,
+            moves: _moves,
             is_spent: _is_spent,
             of: _of,
         } = self;
@@ -158,6 +169,10 @@ impl<B: Naming> Tables<B> {
             rest_ms: 0,
             presses: false,
             used_before: false,
+            askers: Askers::new(alloc)?,
+            pressed: 0,
+            wanted: 0,
+            moves: 0,
             is_spent: false,
             of: PhantomData,
         })
@@ -275,8 +290,8 @@ impl<B: Naming> Tables<B> {
         Ok(())
     }
 
-    // One message more has come over a link: it is delivered, or passed over.
-    fn deliver_next(
+    /// One message more has come over a link: it is delivered, or passed over.
+    pub(crate) fn deliver_next(
         &mut self,
         alloc: Global,
         history: &History<Entry>,
@@ -321,6 +336,117 @@ impl<B: Naming> Tables<B> {
             Some(peer) => most_rest_ms(peer.role),
             None => 0,
         }
+    }
+
+    /// For how long at most what comes over a link waits for rings that it may need, for all that one read gave, in milliseconds.
+    pub(crate) fn most_wait_ms(&self, link: LinkNo, coming: Coming<'_>) -> u64 {
+        match (coming, self.hub.peer_at(link)) {
+            (Coming::Message(_), Some(peer)) => match closing_of(self.ends.as_slice(), link) {
+                Some(_) => 0, // what comes over it is refused
+                None => most_wait_ms(peer.role),
+            },
+            (Coming::Down, Some(_)) => MOST_DOWN_WAIT_MS,
+            (_, None) => 0,
+        }
+    }
+
+    /// The links, a bit for each, for whose rings an event waits or which are half full.
+    pub(crate) fn asked(&self) -> u128 {
+        self.pressed | self.wanted
+    }
+
+    /// The links among these, a bit for each, that a message over a link doesn't reach.
+    pub(crate) fn clear_of(&self, link: LinkNo, msg: &Msg, among: u128) -> u128 {
+        among & !self.view().reached(link, Coming::Message(msg), among)
+    }
+
+    /// How many events have got in that had waited.
+    pub(crate) fn moves(&self) -> u64 {
+        self.moves
+    }
+
+    /// Whether the next message over a link is to be looked at alone: an event waits for a ring, or, where some of those that come may not be dropped, one
+    /// is half full. Rings that none of them may reach don't count.
+    pub(crate) fn is_pressed(&self, pace: &Pace) -> bool {
+        let asked = if pace.all_may_drop {
+            self.wanted
+        } else {
+            self.asked()
+        };
+        asked & !pace.clear_of != 0
+    }
+
+    /// What an event that comes over a link is to wait for.
+    pub(crate) fn outlook(&mut self, alloc: Global, from: LinkNo, coming: Coming<'_>) -> Outlook
+        ensures { entries self.new ≡ entries self.old }
+    {
+        if coming.may_be_dropped() {
+            let reached = self.view().reached(from, coming, self.wanted);
+            return self.crowds(alloc, reached).outlook_behind();
+        }
+        let reached = self.view().reached(from, coming, self.pressed);
+        let parcels = self.view().parcels(coming, reached);
+        let outlook = self.crowds(alloc, reached).outlook(parcels);
+        self.wanted |= outlook.wanted();
+        outlook
+    }
+
+    fn view(&self) -> View<'_> {
+        View {
+            hub: &self.hub,
+            askers: &self.askers,
+        }
+    }
+
+    // How crowded the rings of these links would be with one parcel more for each. No link counts where memory has run out.
+    fn crowds(&mut self, alloc: Global, links: u128) -> Crowds
+        ensures { entries self.new ≡ entries self.old }
+    {
+        if links == 0 || self.is_spent {
+            return Crowds::none();
+        }
+        let Ok(sent) = parcel_each(alloc, links) else {
+            return Crowds::none();
+        };
+        let result = self.probe(alloc, links, sent.as_slice());
+        drop(sent);
+        match result {
+            Ok(found) => found,
+            Err(AllocError) => Crowds::none(),
+        }
+    }
+
+    // The rings of these links are asked as for an event that sends this, a parcel for each, and of which nothing is entered.
+    fn probe(
+        &mut self,
+        alloc: Global,
+        links: u128,
+        sent: &[(LinkNo, Msg)],
+    ) -> Result<Crowds, AllocError>
+        requires spent { self.old.is_spent ≡ false }
+        requires written { All (λ x. IsWritable x.1) sent.now }
+        ensures kept { list_of self.new.kept ≡ list_of self.old.kept }
+        ensures spent { self.new.is_spent ≡ is_err result }
+    {
+        self.is_spent = true;
+        let ends = self.ends.as_mut_slice();
+        let event = Event::Down { link: LinkNo(0) }; // whichever: it isn't entered
+        let entry = prepare(alloc, ends, sent, event, None, None)?;
+        let crowds = crowds_of(ends, links, entry.closed.as_slice());
+        let pressed = pressed_by(ends, sent, self.pressed);
+        drop(entry);
+        self.pressed = pressed;
+        self.is_spent = false;
+        Ok(crowds)
+    }
+
+    /// An event has waited, and comes now: others that wait will ask for their rings anew.
+    pub(crate) fn release(&mut self)
+        ensures same { entries self.new ≡ entries self.old }
+        ensures spent { is_spent self.new ≡ is_spent self.old }
+    {
+        self.wanted = 0;
+        self.moves = self.moves.saturating_add(1);
     }
 
     /// A session with a peer has opened: its link comes up under the least number that isn't up.
@@ -454,7 +580,7 @@ impl<B: Naming> Tables<B> {
             return Err(DownError::NoMemory);
         };
         drop(sent);
-        self.due |= bell_of(link);
+        self.due |= bit_of(link);
         let note = Queued {
             me: self.me,
             link,
@@ -612,13 +738,16 @@ impl<B: Naming> Tables<B> {
         let entry = prepare(alloc, ends, sent, event, outbox, reason)?;
         let rest_ms = rest_for(ends);
         let presses = ends.iter().any(|end| end.is_half_full());
+        let pressed = pressed_by(ends, sent, kept_at(&entry.event, self.pressed));
         enter(history, &mut self.kept, pass, self.me, ends, &entry);
+        self.askers.follow(&entry.event, sent);
         drop(entry);
         self.used_before = self.used_before || is_former;
         self.is_spent = false;
         self.due |= due_of(sent);
         self.rest_ms = rest_ms;
         self.presses = presses;
+        self.pressed = pressed;
         Ok(())
     }
 }
@@ -627,40 +756,4 @@ fn glance_of(alloc: Global, hub: &Hub) -> Result<Glance, AllocError>
     ensures { IfOk result (λ g. g ≡ glance hub.now.node) }
 {
     glance_at(alloc, hub.links(), hub.base(), hub.known())
-}
-
-// For how long at most who reads from a link to a peer of that role rests for all that one read gave, in milliseconds. A client waits as long as its
-// messages ask for, and nobody else does.
-fn most_rest_ms(role: Role) -> u64 {
-    match role {
-        Role::Client => u64::MAX,
-        Role::Router => MOST_ROUTER_REST_MS,
-    }
-}
-
-// For how long who brought the event that is prepared is to rest, in milliseconds: as long as the most crowded ring asks for.
-fn rest_for(ends: &[LinkSender]) -> u64 {
-    let mut most = 0u64;
-    for end in ends {
-        most = most.max(end.rest_ms());
-    }
-    most
-}
-
-// The links to which something was sent.
-fn due_of(sent: &[(LinkNo, Msg)]) -> u128 {
-    let mut due = 0;
-    for (to, _) in sent {
-        due |= bell_of(*to);
-    }
-    due
-}
-
-// The bit of a link among those whose writers have something new.
-fn bell_of(link: LinkNo) -> u128 {
-    if link.0 < MOST_SESSIONS {
-        1 << link.0
-    } else {
-        0 // no link of such a number comes up
-    }
 }

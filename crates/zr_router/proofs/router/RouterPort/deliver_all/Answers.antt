@@ -25,14 +25,14 @@ loop-link-init g c =
 pub returns-in-Err-clause-prefix : goal.returns-in-Err-clause-prefix
 returns-in-Err-clause-prefix g c =
     let stopped = c.in-Err.ensures.stopped in
-    comes_later c.args.link (λ h m e. RefusesMessage g.B.Naming.policy g.B.Naming.me h c.args.link m e) c.args.messages.items stopped.0 (sight c.args.pass.now) (sight c.deliver_some-result.new.pass)
-    (comes_then c.args.link (λ h m e. RefusesMessage g.B.Naming.policy g.B.Naming.me h c.args.link m e) _ _ _ (sight c.args.pass.now) (sight c.loop-link.pass) (sight c.deliver_some-result.new.pass) c.loop-link.invariant.delivered stopped.1)
+    comes_later c.args.link (λ h m e. RefusesMessage g.B.Naming.policy g.B.Naming.me h c.args.link m e) c.args.messages.items stopped.0 (sight c.args.pass.now) (sight c.deliver_more.new.pass)
+    (comes_then c.args.link (λ h m e. RefusesMessage g.B.Naming.policy g.B.Naming.me h c.args.link m e) _ _ _ (sight c.args.pass.now) (sight c.loop-link.pass) (sight c.deliver_more.new.pass) c.loop-link.invariant.delivered stopped.1)
 
 pub returns-in-Err-clause-stopped : goal.returns-in-Err-clause-stopped
 returns-in-Err-clause-stopped g c =
     let stopped = c.in-Err.ensures.stopped in (
       stopped.0,
-      comes_then c.args.link (λ h m e. RefusesMessage g.B.Naming.policy g.B.Naming.me h c.args.link m e) _ _ _ (sight c.args.pass.now) (sight c.loop-link.pass) (sight c.deliver_some-result.new.pass) c.loop-link.invariant.delivered stopped.1,
+      comes_then c.args.link (λ h m e. RefusesMessage g.B.Naming.policy g.B.Naming.me h c.args.link m e) _ _ _ (sight c.args.pass.now) (sight c.loop-link.pass) (sight c.deliver_more.new.pass) c.loop-link.invariant.delivered stopped.1,
       stopped.2,
     )
 
@@ -42,7 +42,7 @@ loop-link-preserved g c =
     let done = c.in_default.ensures in
     record {
       same = (done.same.0 ∙ inv.same.0, done.same.1 ∙ inv.same.1);
-      delivered = comes_then c.args.link (λ h m e. RefusesMessage g.B.Naming.policy g.B.Naming.me h c.args.link m e) _ _ _ (sight c.args.pass.now) (sight c.loop-link.pass) (sight c.deliver_some-result.new.pass) inv.delivered done.delivered;
+      delivered = comes_then c.args.link (λ h m e. RefusesMessage g.B.Naming.policy g.B.Naming.me h c.args.link m e) _ _ _ (sight c.args.pass.now) (sight c.loop-link.pass) (sight c.deliver_more.new.pass) inv.delivered done.delivered;
       spelled = done.left.0;
       counted = done.left.1;
       legal = inr (done.legal, done.allowed);

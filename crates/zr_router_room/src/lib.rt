@@ -1,0 +1,13 @@
+//! Whether an event that comes to a router waits for room in the rings that it may need, and how long: guesses by what the router shows. No contract
+//! speaks of them. A wrong guess costs a wait, or closes a link whose ring is full.
+#![tactic(auto)]
+
+mod askers;
+mod crowds;
+mod patience;
+mod reach;
+
+pub use askers::{Askers, bit_of};
+pub use crowds::{Crowds, Outlook};
+pub use patience::{Pace, Patience};
+pub use reach::{Coming, View};
