@@ -76,7 +76,7 @@ steps_at w x = 2 + clients_of w x
 abbrev pub under : WorldState → List ℕ → List ℕ → ℕ
 under w root x = weight_under (graph w) (steps_at w) root x
 
--- a sample that is handled isn't passed on to its author
+-- a sample that is handled isn't passed on to its publisher
 abbrev pub worth_from : WorldState → Option (List ℕ) → End → ℕ
 worth_from w None e = 1
 worth_from w (Some root) e = 1 + clients_but w.ends (keys_of w.ends) e.0 e.1 + (under w root e.0 - steps_at w e.0)
@@ -319,7 +319,7 @@ module _ (w : WorldState) (sound : IsSound w) (sees : SeesItsPart w) where
           sent n false e h true d = absurd (true≢false d)
           sent n true e h d i = absurd (true≢false h)
 
-          -- the author is told nothing
+          -- the publisher is told nothing
           no_author : (not (j.link.0 == k.link.0) && subscribes t.rows j.link.0 content.key) ≡ true → (d : Bool) → is_named q.1 a ≡ d → d ≡ false
           no_author goes false e = refl
           no_author goes true e =
