@@ -1,9 +1,8 @@
 -- The neighbours on the way to what is sought, as they are collected.
-use Rattle.std.proofs.Common.{◌≡◌, ℕ, ◌||◌, ◌&&◌, Bool, true, false, List, [], Option, Some, None, IsSome, Result, is_ok, set, refl, sym, ap, ◌∙◌}
+use Rattle.std.proofs.Common.{◌≡◌, ℕ, ◌||◌, ◌&&◌, Bool, true, false, List, [], Some, None, Result, is_ok, set, refl, sym, ap, ◌∙◌}
 use Rattle.std.specs.Cmp.Lexicographic.{slice_cmp}
 use Rattle.std.specs.List.{insert}
 use Rattle.std.specs.List.Sorted.{IsStrictlySortedBy}
-use Rattle.std.specs.Option.{option_map_or}
 use Rattle.std.specs.Ordering.{nat_cmp}
 use Rattle.std.proofs.lemmas.List.{set-get_or}
 use Rattle.zr_graph.specs.Record.{has, IsAscending}
@@ -44,14 +43,18 @@ regroup n h true r all e k = rw e (top h ∙ k)
 regroup n h false r all e k = rw e k
 
 -- the next step to the router of a log tells which neighbour is on the way there
-pub hop_is : (t : TableState) (tree : List ℕ) (sought : Sought) (key name : List ℕ) (log : Log) (hop : Option (List ℕ)) → is_in_log sought key log ≡ true → hop ≡ toward (graph t) tree t.base.me log.source
-    → (IsSome hop → reached (graph t) t.base.me log.source ≡ true) → option_map_or (λ y. is_named y name) hop false ≡ is_way_to t tree sought key name log
-hop_is t tree sought key name log None in_log to there = rw (in_log, ← to) (none (reached (graph t) t.base.me log.source))
+pub hop_is : (t : TableState) (tree : List ℕ) (sought : Sought) (key name : List ℕ) (log : Log) (hop : List ℕ) → Some hop ≡ toward (graph t) tree t.base.me log.source
+    → reached (graph t) t.base.me log.source ≡ true → is_in_log sought key log ≡ true → is_named hop name ≡ is_way_to t tree sought key name log
+hop_is t tree sought key name log hop to there in_log = rw (in_log, ← to, there) refl
+
+-- and where there is none, none is
+pub no_hop : (t : TableState) (tree : List ℕ) (sought : Sought) (key name : List ℕ) (log : Log) → None ≡ toward (graph t) tree t.base.me log.source → false ≡ is_way_to t tree sought key name log
+no_hop t tree sought key name log to = rw (← to) (none (is_in_log sought key log) (reached (graph t) t.base.me log.source))
   where
-    none : (b : Bool) → false ≡ (b && false)
-    none true = refl
-    none false = refl
-hop_is t tree sought key name log (Some y) in_log to there = rw (in_log, ← to, there refl) refl
+    none : (a b : Bool) → false ≡ (a && (b && false))
+    none true true = refl
+    none true false = refl
+    none false b = refl
 
 pub put_there : (names : List (List ℕ)) (name : List ℕ) (i : ℕ) → IsAt (slice_cmp nat_cmp) (λ n. n) names name i → put (slice_cmp nat_cmp) (λ n. n) names name ≡ names
 put_there names name i h =

@@ -121,13 +121,15 @@ fn place_of(names: &[Zid], name: &Zid) -> Result<usize, usize>
     names.binary_search(name)
 }
 
-// The neighbour on the way to the router of a log, if it is reached and its clients have declared what is sought.
+// The neighbour on the way to the router of a log, if it is reached and its clients have declared what is sought. The way is asked for
+// first: there is none to this router itself, so its own log isn't gone through.
 fn hop_to(way: &mut Way, sought: Sought, key: &KeyExpr, log: &Log) -> Option<Zid>
     ensures kept { way.new ≡ way.old }
     ensures hop { (t : TableState) (tree name : List ℕ) → way.old ≡ way_of t tree → option_map_or (λ y. is_named y name) result false ≡ is_way_to t tree sought key.now name log.now }
 {
+    let hop = way.to(log.source)?;
     if is_in_log(log, sought, key) {
-        way.to(log.source)
+        Some(hop)
     } else {
         None
     }

@@ -1,16 +1,25 @@
-use Rattle.std.proofs.Common.{◌≡◌, false, refl, sym, ap, ◌∙◌}
+use Rattle.std.proofs.Common.{◌≡◌, ℕ, false, List, Option, refl, sym, ap, ◌∙◌}
+use Rattle.std.specs.Option.{option_map_or}
+use Rattle.zr_id.specs.Zid.{is_named}
 use Rattle.zr_push_sought.specs.Sought.{is_in_log}
-use Rattle.zr_push_sought.proofs.Ways.{hop_is}
+use Rattle.zr_push_sought.proofs.Ways.{hop_is, no_hop}
 use Rattle.zr_tree.specs.Tree.{reached, toward}
 use Rattle.zr_tree.specs.Walk.{graph_of}
 use Rattle.zr_tree.specs.Way.{WayState}
 use Rattle.zr_push_sought.proofs.hops.hop_to.Goals as goal
 
+pub returns-in_err-hop-clause-hop : goal.returns-in_err-hop-clause-hop
+returns-in_err-hop-clause-hop c = λ t tree name is.
+    ap (λ (o : Option (List ℕ)). option_map_or (λ y. is_named y name) o false) c.from_residual.ensures
+    ∙ no_hop t tree c.args.sought c.args.key.now name c.args.log.now
+    (sym c.in_err-hop.was ∙ c.to.ensures.child ∙ ap (λ (w : WayState). toward (graph_of w.records) w.root w.at c.args.log.now.source) is)
+
 pub returns-then-is_in_log-clause-hop : goal.returns-then-is_in_log-clause-hop
 returns-then-is_in_log-clause-hop c = λ t tree name is.
-    hop_is t tree c.args.sought c.args.key.now name c.args.log.now c.to.result (sym c.is_in_log.ensures ∙ c.if-is_in_log.true)
-    (c.to.ensures.child ∙ ap (λ (w : WayState). toward (graph_of w.records) w.root w.at c.args.log.now.source) is)
-    (λ some. sym (ap (λ (w : WayState). reached (graph_of w.records) w.at c.args.log.now.source) is) ∙ c.to.ensures.reached some)
+    hop_is t tree c.args.sought c.args.key.now name c.args.log.now c.in_ok-hop.hop
+    (sym c.in_ok-hop.was ∙ c.to.ensures.child ∙ ap (λ (w : WayState). toward (graph_of w.records) w.root w.at c.args.log.now.source) is)
+    (sym (ap (λ (w : WayState). reached (graph_of w.records) w.at c.args.log.now.source) is) ∙ c.to.ensures.reached (rw c.in_ok-hop.was refl))
+    (sym c.is_in_log.ensures ∙ c.if-is_in_log.true)
 
 pub returns-else-is_in_log-clause-hop : goal.returns-else-is_in_log-clause-hop
 returns-else-is_in_log-clause-hop c = λ t tree name is.
