@@ -5,3 +5,4 @@
 pub mod push;
 pub mod route;
 pub mod routes;
+mod searches;

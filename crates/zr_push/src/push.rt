@@ -11,7 +11,7 @@ ghost use Rattle.zr_tree.specs.Tree.{parent};
 ghost use Rattle.zr_push.specs.Route.{push_for, sent_along};
 ghost use Rattle.zr_push.specs.Routes.{AreRoutes};
 
-use crate::route::{Route, RouteLink};
+use crate::route::RouteLink;
 use crate::routes::Routes;
 use std::alloc::{AllocError, Global};
 use zr_id::link::LinkNo;
@@ -48,7 +48,7 @@ pub fn push(
     if let Some(route) = routes.find(tree, Sought::Subscribers, key) {
         return send_along(route.stops(), link, tree, content, out);
     }
-    let route = Route::of(alloc, tables, tree, Sought::Subscribers, key)?;
+    let route = routes.work_out(alloc, tables, tree, key)?;
     send_along(route.stops(), link, tree, content, out)?;
     routes.remember(alloc, tree, Sought::Subscribers, key, route)
 }

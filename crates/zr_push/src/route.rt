@@ -1,8 +1,10 @@
 //! `Route`: the links over which a sample or a request on a key goes on in a tree.
 
-ghost use Rattle.std.specs.Prelude.{◌≡◌, IfOk, map, filter};
+ghost use Rattle.std.specs.Prelude.{◌≡◌, IfOk, IfSome, map, filter};
 ghost use Rattle.zr_node_spec.specs.Queries.{tree_for};
 ghost use Rattle.zr_node_spec.specs.Tables.{TableState};
+ghost use Rattle.zr_push_sought.specs.Found.{TellClients};
+ghost use Rattle.zr_push_sought.specs.Holders.{AreFound};
 ghost use Rattle.zr_push.specs.Route.{goes_on, is_stop, route_of, stop_at, stops_from};
 
 use std::alloc::{AllocError, Global};
@@ -13,6 +15,7 @@ use zr_key::key::KeyExpr;
 use zr_msg::peer::{LinkPeer, Role};
 use zr_node_spec::tables::TablesView;
 use zr_push_sought::client_rows::ClientRows;
+use zr_push_sought::holders::Found;
 use zr_push_sought::hops::Hops;
 use zr_push_sought::search::has_declared;
 use zr_push_sought::sought::Sought;
@@ -73,9 +76,24 @@ impl Route {
     ) -> Result<Route, AllocError>
         ensures { IfOk result (λ r. r ≡ route_of tables.now tree sought key.now) }
     {
-        let hops = Hops::to(alloc, tables, tree, sought, key)?;
+        Route::by(alloc, tables, tree, None, sought, key)
+    }
+
+    /// The same, where it may be known who has declared that. Otherwise all declarations are looked at.
+    pub fn by(
+        alloc: Global,
+        tables: &TablesView,
+        tree: Zid,
+        found: Option<&Found>,
+        sought: Sought,
+        key: &KeyExpr,
+    ) -> Result<Route, AllocError>
+        requires { IfSome found (λ f. AreFound tables.now sought key.now f.now) }
+        ensures { IfOk result (λ r. r ≡ route_of tables.now tree sought key.now) }
+    {
+        let hops = Hops::to(alloc, tables, tree, found, sought, key)?;
         Ok(Route {
-            stops: stops_on(alloc, tables, &hops, sought, key)?,
+            stops: stops_on(alloc, tables, &hops, found, sought, key)?,
         })
     }
 
@@ -115,16 +133,18 @@ fn stops_on(
     alloc: Global,
     tables: &TablesView,
     hops: &Hops,
+    found: Option<&Found>,
     sought: Sought,
     key: &KeyExpr,
 ) -> Result<Vec<RouteLink>, AllocError>
+    requires { IfSome found (λ f. TellClients sought key.now tables.now.rows f.now.clients.items) }
     ensures { IfOk result (λ v. v.items ≡ map (λ l. stop_at l) (filter (λ l. is_stop tables.now hops.now sought key.now l l.peer.role) tables.now.links)) }
 {
     let links = tables.links();
     let mut rows = ClientRows::of(tables.local());
     let mut stops = Vec::new(alloc);
     for link in links {
-        if is_stop(&mut rows, hops, sought, key, link) {
+        if is_stop(&mut rows, hops, found, sought, key, link) {
             stops.push(stop_at(link))?;
         }
     }
@@ -134,15 +154,17 @@ fn stops_on(
 fn is_stop(
     rows: &mut ClientRows,
     hops: &Hops,
+    found: Option<&Found>,
     sought: Sought,
     key: &KeyExpr,
     link: &LinkPeer,
 ) -> bool
+    requires { IfSome found (λ f. TellClients sought key.now rows.old f.now.clients.items) }
     ensures kept { rows.new ≡ rows.old }
     ensures stop { (t : TableState) → rows.old ≡ t.rows → result ≡ is_stop t hops.now sought key.now link.now link.now.peer.role }
 {
     match link.peer.role {
-        Role::Client => has_declared(rows, link.link, sought, key),
+        Role::Client => has_declared(rows, found, link.link, sought, key),
         Role::Router => hops.has(&link.peer.id),
     }
 }

@@ -1,17 +1,21 @@
 //! What a router remembers of the trees and keys of samples and requests, so that its tables are asked once a tree and key and not once a
 //! message.
 
-ghost use Rattle.std.specs.Prelude.{◌≡◌, ◌≤◌, ◌==◌, ◌&&◌};
+ghost use Rattle.std.specs.Prelude.{◌≡◌, ◌≤◌, ◌==◌, ◌&&◌, IfOk};
 ghost use Rattle.std.specs.BTreeMap.{btree_map_len};
 ghost use Rattle.std.specs.Str.{bytes_eq};
 ghost use Rattle.zr_id.specs.Zid.{is_named};
 ghost use Rattle.zr_push_sought.specs.Sought.{sought_number};
+ghost use Rattle.zr_push_sought.specs.declared.sought.Sought.{Sought};
+ghost use Rattle.zr_push.specs.Route.{route_of};
 
 use crate::route::Route;
+use crate::searches::Searches;
 use std::alloc::{AllocError, Global};
 use std::collections::BTreeMap;
 use zr_id::zid::Zid;
 use zr_key::key::KeyExpr;
+use zr_node_spec::tables::TablesView;
 use zr_push_sought::sought::Sought;
 
 /// How many routes are remembered at most. Messages may come on ever new keys, so there has to be a bound. With a thousand stops in
@@ -47,13 +51,13 @@ impl Remembered {
 pub struct Routes {
     // by a number that is worked out from tree, what is sought and key: a hint, which is checked at the route
     known: BTreeMap<u64, Remembered>,
+    subscribers: Searches,
     ghost bounded: { btree_map_len known ≤ 4096 },
 }
 
 impl Routes {
     ghost use Rattle.std.specs.Prelude.{◌<◌, IfSome};
     ghost use Rattle.zr_node_spec.specs.Tables.{TableState};
-    ghost use Rattle.zr_push.specs.Route.{route_of};
     ghost use Rattle.zr_push.specs.Routes.{AreRoutes};
 
     /// Nothing is remembered.
@@ -62,6 +66,7 @@ impl Routes {
     {
         Routes {
             known: BTreeMap::new(alloc),
+            subscribers: Searches::new(),
         }
     }
 
@@ -70,6 +75,23 @@ impl Routes {
         ensures { (t : TableState) → AreRoutes self.new t }
     {
         self.known.clear();
+        self.subscribers.clear();
+    }
+
+    /// The route in a tree to the subscribers for a key, worked out.
+    pub fn work_out(
+        &mut self,
+        alloc: Global,
+        tables: &TablesView,
+        tree: Zid,
+        key: &KeyExpr,
+    ) -> Result<Route, AllocError>
+        requires { AreRoutes self.old tables.now }
+        ensures routes { AreRoutes self.new tables.now }
+        ensures route { IfOk result (λ r. r ≡ route_of tables.now tree Sought.Subscribers key.now) }
+    {
+        self.subscribers
+            .route(alloc, tables, tree, Sought::Subscribers, key)
     }
 
     /// The route in a tree to what is sought for a key, if it is remembered.

@@ -1,3 +1,5 @@
+pub mod Adding
 pub mod ByKind
 pub mod Rows
+pub mod Telling
 pub mod Ways

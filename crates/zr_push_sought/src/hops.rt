@@ -1,6 +1,6 @@
 //! `Hops`: the neighbours on the way to some routers.
 
-ghost use Rattle.std.specs.Prelude.{◌≡◌, ◌||◌, ℕ, List, [], false, IfOk, OnOk};
+ghost use Rattle.std.specs.Prelude.{◌≡◌, ◌||◌, ℕ, List, [], false, IfOk, IfSome, OnOk};
 ghost use Rattle.std.specs.Cmp.Lexicographic.{slice_cmp};
 ghost use Rattle.std.specs.List.{list_any};
 ghost use Rattle.std.specs.Option.{option_map_or};
@@ -8,11 +8,13 @@ ghost use Rattle.std.specs.Ordering.{nat_cmp};
 ghost use Rattle.zr_graph.specs.Record.{has, IsAscending};
 ghost use Rattle.zr_id.specs.Zid.{is_named};
 ghost use Rattle.zr_push_sought.specs.Hops.{is_way_to, way_of};
-ghost use Rattle.zr_push_sought.specs.Sought.{leads_to};
+ghost use Rattle.zr_push_sought.specs.Sought.{is_in_log, leads_to};
+ghost use Rattle.zr_push_sought.specs.Found.{TellSources};
 ghost use Rattle.zr_node_spec.specs.Tables.{TableState};
 ghost use Rattle.zr_lists.specs.Ascending.{put};
 ghost use Rattle.zr_lists.specs.Place.{IsGap, IsPlace};
 
+use crate::holders::Found;
 use crate::search::is_in_log;
 use crate::sought::Sought;
 use std::alloc::{AllocError, Global};
@@ -54,12 +56,22 @@ impl Hops {
         alloc: Global,
         tables: &TablesView,
         tree: Zid,
+        found: Option<&Found>,
         sought: Sought,
         key: &KeyExpr,
     ) -> Result<Hops, AllocError>
+        requires { IfSome found (λ f. TellSources sought key.now tables.now.base.me tables.now.known.logs f.now.sources.items) }
         ensures { IfOk result (λ h. (name : List ℕ) → has h name ≡ leads_to tables.now tree sought key.now name) }
     {
-        hops_to(alloc, tables, tree, sought, key, tables.known().logs())
+        hops_to(
+            alloc,
+            tables,
+            tree,
+            found,
+            sought,
+            key,
+            tables.known().logs(),
+        )
     }
 
     /// Whether a neighbour is among them.
@@ -100,21 +112,23 @@ fn hops_to(
     alloc: Global,
     tables: &TablesView,
     tree: Zid,
+    found: Option<&Found>,
     sought: Sought,
     key: &KeyExpr,
     logs: &[Log],
 ) -> Result<Hops, AllocError>
+    requires { IfSome found (λ f. TellSources sought key.now tables.now.base.me logs.now f.now.sources.items) }
     ensures { IfOk result (λ h. (name : List ℕ) → has h name ≡ list_any (is_way_to tables.now tree sought key.now name) logs.now) }
 {
     let mut way = Way::of(tables.trees(), tree, tables.me());
     let mut hops = Hops::new(alloc);
     for log in logs {
-        hops.extend(hop_to(&mut way, sought, key, log))?;
+        hops.extend(hop_to(&mut way, found, sought, key, log))?;
     }
     Ok(hops)
 }
 
-fn place_of(names: &[Zid], name: &Zid) -> Result<usize, usize>
+pub(crate) fn place_of(names: &[Zid], name: &Zid) -> Result<usize, usize>
     requires { IsAscending names.now }
     ensures { IsPlace (slice_cmp nat_cmp) (λ n. n) names.now name.now result }
 {
@@ -123,12 +137,19 @@ fn place_of(names: &[Zid], name: &Zid) -> Result<usize, usize>
 
 // The neighbour on the way to the router of a log, if it is reached and its clients have declared what is sought. The way is asked for
 // first: there is none to this router itself, so its own log isn't gone through.
-fn hop_to(way: &mut Way, sought: Sought, key: &KeyExpr, log: &Log) -> Option<Zid>
+fn hop_to(
+    way: &mut Way,
+    found: Option<&Found>,
+    sought: Sought,
+    key: &KeyExpr,
+    log: &Log,
+) -> Option<Zid>
+    requires { IfSome found (λ f. is_named log.now.source way.old.at ≡ false → has f.now.sources.items log.now.source ≡ is_in_log sought key.now log.now) }
     ensures kept { way.new ≡ way.old }
     ensures hop { (t : TableState) (tree name : List ℕ) → way.old ≡ way_of t tree → option_map_or (λ y. is_named y name) result false ≡ is_way_to t tree sought key.now name log.now }
 {
     let hop = way.to(log.source)?;
-    if is_in_log(log, sought, key) {
+    if is_in_log(log, found, sought, key) {
         Some(hop)
     } else {
         None

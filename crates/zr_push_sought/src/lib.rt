@@ -3,6 +3,7 @@
 #![tactic(auto)]
 
 pub mod client_rows;
+pub mod holders;
 pub mod hops;
 pub mod search;
 pub mod sought;

@@ -1,16 +1,20 @@
 //! Whether what is sought was declared.
 
-ghost use Rattle.std.specs.Prelude.{◌≡◌, ◌≤◌, ℕ, List, true, false, length};
+ghost use Rattle.std.specs.Prelude.{◌≡◌, ◌≤◌, ℕ, List, true, false, length, IfSome};
 ghost use Rattle.std.specs.List.{list_any};
 ghost use Rattle.std.specs.List.Sorted.{IsNonDecreasingBy, IsPartitionPoint};
 ghost use Rattle.zr_node_spec.specs.Queries.{is_queryable, is_complete};
 ghost use Rattle.zr_node_spec.specs.Samples.{is_subscriber};
+ghost use Rattle.zr_graph.specs.Record.{has};
+ghost use Rattle.zr_push_sought.specs.Found.{TellClients};
+ghost use Rattle.zr_push_sought.specs.Pairs.{is_kind};
 ghost use Rattle.zr_push_sought.specs.Sought.{is_sought, is_lower, has_declared, is_in_log};
 ghost use Rattle.zr_push_sought.specs.declared.sought.Sought.{Sought};
 ghost use Rattle.zr_log_set.specs.Decls.{IsSet};
 ghost use Rattle.zr_msg.specs.Decl.{kind_rank};
 
 use crate::client_rows::ClientRows;
+use crate::holders::Found;
 use crate::sought::Sought;
 use zr_id::link::LinkNo;
 use zr_key::key::KeyExpr;
@@ -20,8 +24,25 @@ use zr_match::{covers, meets};
 use zr_msg::decl::{Decl, Kind};
 use zr_node_spec::kinds::is_complete;
 
-/// Whether the client of a link has declared it.
-pub fn has_declared(rows: &mut ClientRows, link: LinkNo, sought: Sought, key: &KeyExpr) -> bool
+/// Whether the client of a link has declared it. Where that was found for all it isn't looked for again.
+pub fn has_declared(
+    rows: &mut ClientRows,
+    found: Option<&Found>,
+    link: LinkNo,
+    sought: Sought,
+    key: &KeyExpr,
+) -> bool
+    requires { IfSome found (λ f. TellClients sought key.now rows.old f.now.clients.items) }
+    ensures kept { rows.new ≡ rows.old }
+    ensures has { result ≡ has_declared rows.old link.0 sought key.now }
+{
+    match found {
+        Some(found) => found.has_client(link),
+        None => has_row(rows, link, sought, key),
+    }
+}
+
+fn has_row(rows: &mut ClientRows, link: LinkNo, sought: Sought, key: &KeyExpr) -> bool
     ensures kept { rows.new ≡ rows.old }
     ensures has { result ≡ has_declared rows.old link.0 sought key.now }
 {
@@ -29,7 +50,17 @@ pub fn has_declared(rows: &mut ClientRows, link: LinkNo, sought: Sought, key: &K
 }
 
 /// Whether the clients of a log's router have. Declarations of another kind are not looked at.
-pub(crate) fn is_in_log(log: &Log, sought: Sought, key: &KeyExpr) -> bool
+pub(crate) fn is_in_log(log: &Log, found: Option<&Found>, sought: Sought, key: &KeyExpr) -> bool
+    requires { IfSome found (λ f. has f.now.sources.items log.now.source ≡ is_in_log sought key.now log.now) }
+    ensures { result ≡ is_in_log sought key.now log.now }
+{
+    match found {
+        Some(found) => found.has_source(&log.source),
+        None => has_decl(log, sought, key),
+    }
+}
+
+fn has_decl(log: &Log, sought: Sought, key: &KeyExpr) -> bool
     ensures { result ≡ is_in_log sought key.now log.now }
 {
     has_sought(of_kind(log.decls.as_slice(), sought), sought, key)
@@ -89,6 +120,17 @@ fn is_sought(sought: Sought, key: &KeyExpr, decl: &Decl) -> bool
         Sought::Subscribers => is_subscriber(decl.kind) && meets(&decl.key, key),
         Sought::Queryables => is_queryable(decl.kind) && meets(&decl.key, key),
         Sought::Complete => is_complete(decl.kind) && covers(&decl.key, key),
+    }
+}
+
+/// Whether declarations of a kind are sought.
+pub(crate) fn is_kind(sought: Sought, kind: Kind) -> bool
+    ensures { result ≡ is_kind sought kind }
+{
+    match sought {
+        Sought::Subscribers => is_subscriber(kind),
+        Sought::Queryables => is_queryable(kind),
+        Sought::Complete => is_complete(kind),
     }
 }
 

@@ -38,16 +38,16 @@ returns-in_err-send_along-clause-err c = λ up at.
     let p = err_from_is_err_and c.from_residual-in_err-send_along.result c.from_residual-in_err-send_along.ensures.1 in
     rw p.1
     (along_prefix c.args.tables.now c.args.from c.args.named c.in-Some.tree c.args.content.now up at c.in-Some.ensures c.stops-2.result.now
-    (c.stops-2.ensures ∙ c.in_ok-route.ensures ∙ ap (λ k. route_of c.args.tables.now c.in-Some.tree Subscribers k) c.key-key.ensures) _ _ c.in_err-send_along.ensures.err)
+    (c.stops-2.ensures ∙ c.in_ok-route.ensures.route ∙ ap (λ k. route_of c.args.tables.now c.in-Some.tree Subscribers k) c.key-key.ensures) _ _ c.in_err-send_along.ensures.err)
 
 pub returns-clause-ok : goal.returns-clause-ok
 returns-clause-ok c = λ up at.
     ok_too c.remember.result
     (along_tells c.args.tables.now c.args.from c.args.named c.in-Some.tree c.args.content.now up at c.in-Some.ensures c.stops-2.result.now
-    (c.stops-2.ensures ∙ c.in_ok-route.ensures ∙ ap (λ k. route_of c.args.tables.now c.in-Some.tree Subscribers k) c.key-key.ensures) _ _ c.in_ok-send_along.ensures.ok)
+    (c.stops-2.ensures ∙ c.in_ok-route.ensures.route ∙ ap (λ k. route_of c.args.tables.now c.in-Some.tree Subscribers k) c.key-key.ensures) _ _ c.in_ok-send_along.ensures.ok)
 
 pub returns-clause-err : goal.returns-clause-err
 returns-clause-err c = λ up at.
     err_too c.remember.result
     (along_prefix c.args.tables.now c.args.from c.args.named c.in-Some.tree c.args.content.now up at c.in-Some.ensures c.stops-2.result.now
-    (c.stops-2.ensures ∙ c.in_ok-route.ensures ∙ ap (λ k. route_of c.args.tables.now c.in-Some.tree Subscribers k) c.key-key.ensures) _ _ (all_said _ _ _ c.in_ok-send_along.ensures.ok))
+    (c.stops-2.ensures ∙ c.in_ok-route.ensures.route ∙ ap (λ k. route_of c.args.tables.now c.in-Some.tree Subscribers k) c.key-key.ensures) _ _ (all_said _ _ _ c.in_ok-send_along.ensures.ok))

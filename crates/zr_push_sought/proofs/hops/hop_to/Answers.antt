@@ -1,12 +1,18 @@
 use Rattle.std.proofs.Common.{◌≡◌, ℕ, false, List, Option, refl, sym, ap, ◌∙◌}
 use Rattle.std.specs.Option.{option_map_or}
+use Rattle.std.proofs.lemmas.Option.{IfSome_then}
 use Rattle.zr_id.specs.Zid.{is_named}
 use Rattle.zr_push_sought.specs.Sought.{is_in_log}
-use Rattle.zr_push_sought.proofs.Ways.{hop_is, no_hop}
+use Rattle.zr_push_sought.proofs.Ways.{hop_is, no_hop, to_another}
 use Rattle.zr_tree.specs.Tree.{reached, toward}
 use Rattle.zr_tree.specs.Walk.{graph_of}
 use Rattle.zr_tree.specs.Way.{WayState}
 use Rattle.zr_push_sought.proofs.hops.hop_to.Goals as goal
+
+pub is_in_log-requires : goal.is_in_log-requires
+is_in_log-requires c =
+    IfSome_then c.args.found c.requires
+    (λ f others. others (to_another c.args.way.now.records c.args.way.now.root c.args.way.now.at c.args.log.now.source c.in_ok-hop.hop (sym c.to.ensures.child ∙ c.in_ok-hop.was)))
 
 pub returns-in_err-hop-clause-hop : goal.returns-in_err-hop-clause-hop
 returns-in_err-hop-clause-hop c = λ t tree name is.

@@ -1,9 +1,14 @@
-use Rattle.std.proofs.Common.{◌≡◌, ◌||◌, ◌+◌, ◌<◌, ℕ, Bool, List, length, get_or, drop, sym, ap, ◌∙◌, arith}
+use Rattle.std.proofs.Common.{◌≡◌, ◌||◌, ◌+◌, ◌<◌, ℕ, Bool, List, false, length, get_or, drop, sym, ap, ◌∙◌, arith}
 use Rattle.std.specs.List.{list_any}
 use Rattle.std.proofs.lemmas.List.{at_drop_more}
+use Rattle.std.proofs.lemmas.Option.{IfSome_then}
+use Rattle.zr_graph.specs.Record.{has}
+use Rattle.zr_id.specs.Zid.{is_named}
 use Rattle.zr_log.specs.declared.log.Log.{Log}
 use Rattle.zr_push_sought.specs.Hops.{is_way_to}
-use Rattle.zr_push_sought.proofs.Ways.{regroup}
+use Rattle.zr_push_sought.specs.Sought.{is_in_log}
+use Rattle.zr_push_sought.proofs.Ways.{regroup, at_place}
+use Rattle.zr_tree.specs.Way.{WayState}
 use Rattle.zr_push_sought.proofs.hops.hops_to.Goals as goal
 
 -- one log more was asked
@@ -14,6 +19,13 @@ asked_more way logs i log hop old new less is e f h =
     at_drop_more (λ ls. list_any way ls) logs i log less ∙ ap (λ q. way q || list_any way (drop (i + 1) logs)) (sym is) in
     ap (λ b. b || list_any way (drop (i + 1) logs)) f
     ∙ regroup hop old (way log) (list_any way (drop (i + 1) logs)) (list_any way logs) e (ap (λ b. old || b) (sym one) ∙ h)
+
+pub hop_to-requires : goal.hop_to-requires
+hop_to-requires c =
+    IfSome_then c.args.found c.requires
+    (λ f all other.
+    at_place (λ l. is_named l.source c.args.tables.now.base.me ≡ false → has f.now.sources.items l.source ≡ is_in_log c.args.sought c.args.key.now l) c.args.logs.now c.loop-log.log-index c.log-item.result (omega arith) c.log-item.is all
+    (ap (λ (w : WayState). is_named c.log-item.result.source w.at) (sym c.loop-log.invariant.way) ∙ other))
 
 pub loop-log-preserved : goal.loop-log-preserved
 loop-log-preserved c = record {

@@ -5,5 +5,8 @@ use Rattle.zr_push.proofs.routes.Routes.remember.Goals as goal
 
 pub returns : goal.returns
 returns c = λ t right is.
-    put_right t c.make_room.new.self.known c.insert.new.self _ _ c.in_ok-insert.ensures.updates (c.make_room.ensures.right t right)
-    (is ∙ ap (λ (key : List ℕ). route_of t c.args.tree c.args.sought key) (sym c.in_ok-key.ensures))
+    let room = c.make_room.ensures.right t right in (
+      put_right t c.make_room.new.self.known c.insert.new.self _ _ c.in_ok-insert.ensures.updates room.0
+          (is ∙ ap (λ (key : List ℕ). route_of t c.args.tree c.args.sought key) (sym c.in_ok-key.ensures)),
+      room.1,
+    )

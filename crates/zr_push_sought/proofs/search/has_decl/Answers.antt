@@ -2,7 +2,7 @@ use Rattle.std.proofs.Common.{List, ap, ◌∙◌}
 use Rattle.std.specs.List.{list_any}
 use Rattle.zr_msg.specs.declared.decl.Decl.{Decl}
 use Rattle.zr_push_sought.specs.Sought.{is_sought}
-use Rattle.zr_push_sought.proofs.search.is_in_log.Goals as goal
+use Rattle.zr_push_sought.proofs.search.has_decl.Goals as goal
 
 pub returns : goal.returns
 returns c =

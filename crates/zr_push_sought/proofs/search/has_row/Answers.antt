@@ -3,7 +3,7 @@ use Rattle.std.specs.List.{list_any}
 use Rattle.zr_lists.proofs.Filters.{any_kept}
 use Rattle.zr_local.specs.declared.row.Row.{Row}
 use Rattle.zr_push_sought.specs.Sought.{is_sought}
-use Rattle.zr_push_sought.proofs.search.has_declared.Goals as goal
+use Rattle.zr_push_sought.proofs.search.has_row.Goals as goal
 
 pub returns-clause-has : goal.returns-clause-has
 returns-clause-has c =

@@ -1,0 +1,102 @@
+//! `Searches`: routes to what is sought that are worked out by the same tables.
+
+ghost use Rattle.std.specs.Prelude.{◌≡◌, IfOk};
+ghost use Rattle.zr_node_spec.specs.Tables.{TableState};
+ghost use Rattle.zr_push.specs.Route.{route_of};
+ghost use Rattle.zr_push_sought.specs.Holders.{HoldAll, SeeksMeeting};
+ghost use Rattle.zr_push_sought.specs.declared.sought.Sought.{Sought};
+
+use crate::route::Route;
+use std::alloc::{AllocError, Global};
+use zr_id::zid::Zid;
+use zr_key::key::KeyExpr;
+use zr_node_spec::tables::TablesView;
+use zr_push_sought::holders::Holders;
+use zr_push_sought::sought::Sought;
+
+/// After so many searches by the same tables all who have declared what is sought are put into an index. Each search looks at all
+/// declarations, and together they cost about what the index does. So tables that change often get none.
+const SEARCHES_BEFORE_INDEX: u32 = 32;
+
+/// The searches for routes to one thing that is sought, by the same tables.
+#[derive(Drop)]
+pub struct Searches {
+    // how many there were before the index
+    made: u32,
+    holders: Option<Holders>,
+}
+
+impl Searches {
+    ghost use Rattle.zr_push.specs.Searches.{AreSearches};
+
+    /// None were made.
+    pub fn new() -> Searches
+        ensures { (sought : Sought) (t : TableState) → AreSearches result sought t }
+    {
+        Searches {
+            made: 0,
+            holders: None,
+        }
+    }
+
+    /// Forgets what was found out. It takes no memory, so it can't fail.
+    pub fn clear(&mut self)
+        ensures { (sought : Sought) (t : TableState) → AreSearches self.new sought t }
+    {
+        *self = Searches::new();
+    }
+
+    /// The route in a tree to what is sought for a key, worked out. A declaration is sought if it is of some kind and meets the key.
+    pub fn route(
+        &mut self,
+        alloc: Global,
+        tables: &TablesView,
+        tree: Zid,
+        sought: Sought,
+        key: &KeyExpr,
+    ) -> Result<Route, AllocError>
+        requires searches { AreSearches self.old sought tables.now }
+        requires meeting { SeeksMeeting sought key.now }
+        ensures searches { AreSearches self.new sought tables.now }
+        ensures route { IfOk result (λ r. r ≡ route_of tables.now tree sought key.now) }
+    {
+        self.prepare(alloc, tables, sought);
+        match &self.holders {
+            Some(holders) => route_by(alloc, tables, tree, holders, sought, key),
+            None => Route::of(alloc, tables, tree, sought, key),
+        }
+    }
+
+    // Makes the index, once enough searches were made. Where there is no memory for it, as many more are made first.
+    fn prepare(&mut self, alloc: Global, tables: &TablesView, sought: Sought)
+        requires { AreSearches self.old sought tables.now }
+        ensures { AreSearches self.new sought tables.now }
+    {
+        if self.holders.is_some() {
+            return;
+        }
+        if self.made < SEARCHES_BEFORE_INDEX {
+            self.made += 1;
+            return;
+        }
+        self.made = 0;
+        self.holders = Holders::of(alloc, tables, sought).ok();
+    }
+}
+
+// The route in a tree to what is sought for a key, by the index.
+fn route_by(
+    alloc: Global,
+    tables: &TablesView,
+    tree: Zid,
+    holders: &Holders,
+    sought: Sought,
+    key: &KeyExpr,
+) -> Result<Route, AllocError>
+    requires all { HoldAll sought tables.now holders.now }
+    requires meeting { SeeksMeeting sought key.now }
+    ensures { IfOk result (λ r. r ≡ route_of tables.now tree sought key.now) }
+{
+    let found = holders.find(alloc, key)?;
+    Route::by(alloc, tables, tree, Some(&found), sought, key)
+}
