@@ -9,6 +9,8 @@ use Rattle.zr_node.specs.Steps.{join_part}
 use Rattle.zr_node.specs.declared.failure.NodeFailure.TheVariants.{NoMemory}
 use Rattle.zr_node.proofs.Answers.{change_failed}
 use Rattle.zr_node.proofs.Done.{failed}
+use Rattle.zr_node_spec.specs.Tables.{TableState}
+use Rattle.zr_node.proofs.Remembering.{whole_anew}
 use Rattle.zr_node.proofs.node.Node.join.Goals as goal
 
 pub returns-in_err-join : goal.returns-in_err-join
@@ -39,3 +41,13 @@ returns c =
       state = ap (λ (b : BaseState). with_base node b) (c.in_ok-join.ensures.ok ∙ ap (λ (l : LinkedState). joined c.self.inside.base l) c.own_link.ensures);
       sends = c.in_ok-flood_up.ensures.ok node c.args.peer.now of (c.in_ok-join.ensures.ok ∙ ap (λ (l : LinkedState). joined c.self.inside.base l) c.own_link.ensures);
     })
+
+pub invariant_of-self-in_err-flood_up : goal.invariant_of-self-in_err-flood_up
+invariant_of-self-in_err-flood_up c =
+    let before : TableState = record { links = c.self.inside.links; base = c.self.inside.base; rows = c.self.inside.local.rows; clients = c.self.inside.local.clients; known = c.self.inside.known } in
+    whole_anew before c.join.new.base c.forget.new.family c.forget.new.trees c.forget.new.routes (ap (λ (b : BaseState). b.me) c.in_ok-join.ensures.ok) c.self.invariant.links c.self.invariant.own c.forget.ensures.family c.forget.ensures.trees c.forget.ensures.routes
+
+pub invariant_of-self-2 : goal.invariant_of-self-2
+invariant_of-self-2 c =
+    let before : TableState = record { links = c.self.inside.links; base = c.self.inside.base; rows = c.self.inside.local.rows; clients = c.self.inside.local.clients; known = c.self.inside.known } in
+    whole_anew before c.join.new.base c.forget.new.family c.forget.new.trees c.forget.new.routes (ap (λ (b : BaseState). b.me) c.in_ok-join.ensures.ok) c.self.invariant.links c.self.invariant.own c.forget.ensures.family c.forget.ensures.trees c.forget.ensures.routes

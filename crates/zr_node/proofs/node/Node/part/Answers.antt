@@ -13,6 +13,8 @@ use Rattle.zr_node.proofs.Answers.{change_failed}
 use Rattle.zr_node.proofs.Done.{failed}
 use Rattle.zr_node.proofs.Requests.{table_is}
 use Rattle.zr_node.proofs.Retold.{told_both, prefix_first, prefix_second}
+use Rattle.zr_node_spec.specs.Tables.{TableState}
+use Rattle.zr_node.proofs.Remembering.{whole_anew}
 use Rattle.zr_node.proofs.node.Node.part.Goals as goal
 
 pub returns-in_err-part : goal.returns-in_err-part
@@ -57,3 +59,18 @@ returns c =
           told_both (sends_ends node.pending node.held c.args.link.0) (sends_parted node c.args.link.0 c.args.peer.now Router) (parting_part node c.args.link.0 c.args.peer.now).sends c.args.out.now.items (λ to. refl) c.ends_of.new.out.items c.flood_down.new.out.items
           c.in_ok-ends_of.ensures.ok (c.in_ok-flood_down.ensures.ok node c.args.peer.now of (c.in_ok-part.ensures.ok ∙ ap (λ (p : PeerState). parted c.self.inside.base p.id) c.peer.view_is));
     })
+
+pub invariant_of-self-in_err-ends_of : goal.invariant_of-self-in_err-ends_of
+invariant_of-self-in_err-ends_of c =
+    let before : TableState = record { links = c.self.inside.links; base = c.self.inside.base; rows = c.self.inside.local.rows; clients = c.self.inside.local.clients; known = c.self.inside.known } in
+    whole_anew before c.part.new.base c.forget.new.family c.forget.new.trees c.forget.new.routes (ap (λ (b : BaseState). b.me) c.in_ok-part.ensures.ok) c.self.invariant.links c.self.invariant.own c.forget.ensures.family c.forget.ensures.trees c.forget.ensures.routes
+
+pub invariant_of-self-in_err-flood_down : goal.invariant_of-self-in_err-flood_down
+invariant_of-self-in_err-flood_down c =
+    let before : TableState = record { links = c.self.inside.links; base = c.self.inside.base; rows = c.self.inside.local.rows; clients = c.self.inside.local.clients; known = c.self.inside.known } in
+    whole_anew before c.part.new.base c.forget.new.family c.forget.new.trees c.forget.new.routes (ap (λ (b : BaseState). b.me) c.in_ok-part.ensures.ok) c.self.invariant.links c.self.invariant.own c.forget.ensures.family c.forget.ensures.trees c.forget.ensures.routes
+
+pub invariant_of-self-2 : goal.invariant_of-self-2
+invariant_of-self-2 c =
+    let before : TableState = record { links = c.self.inside.links; base = c.self.inside.base; rows = c.self.inside.local.rows; clients = c.self.inside.local.clients; known = c.self.inside.known } in
+    whole_anew before c.part.new.base c.forget.new.family c.forget.new.trees c.forget.new.routes (ap (λ (b : BaseState). b.me) c.in_ok-part.ensures.ok) c.self.invariant.links c.self.invariant.own c.forget.ensures.family c.forget.ensures.trees c.forget.ensures.routes
