@@ -12,7 +12,6 @@ pub mod Replays
 pub mod Rings
 pub mod Same
 pub mod Settling
-pub mod Snapshots
 pub mod Spelled
 pub mod Stepped
 pub mod Weights

@@ -1,7 +1,7 @@
 pub mod Tables
 pub mod History
 pub mod Note
-pub mod Writable
+pub mod Held
 pub mod Batches
 pub mod Ends
 pub mod Grows

@@ -2,19 +2,16 @@
 
 ghost use Rattle.std.specs.Prelude.{◌≡◌, All, IfOk};
 ghost use Rattle.zr_router_queue.specs.Batches.{written_of};
-ghost use Rattle.zr_router_queue.specs.Writable.{IsSourced, IsWritable};
+ghost use Rattle.zr_frame_pack.specs.Writable.{IsWritable};
 ghost use Rattle.zr_wire.specs.Writing.{writes_message};
 
 use crate::same_sample::is_same_sample;
 use std::alloc::{AllocError, Global};
 use zr_bytes::ByteString;
+use zr_frame_pack::message_bytes;
 use zr_id::link::LinkNo;
 use zr_msg::msg::Msg;
 use zr_msg::shared::Shared;
-use zr_wire::write_message;
-
-/// Room for most small messages, so that writing one takes memory once.
-const FEW_BYTES: usize = 128;
 
 /// Each message with its link, as its bytes. Messages that are one sample in one form share them.
 pub(crate) fn written(
@@ -87,24 +84,4 @@ fn bytes_behind<'a>(
         bytes: bytes.copy()?,
     });
     Ok(bytes)
-}
-
-#[tactic(auto, using(crate::proofs::Snapshots::writable_spelled))]
-fn message_bytes(alloc: Global, msg: &Msg) -> Result<ByteString, AllocError>
-    requires { IsWritable msg.now }
-    ensures { IfOk result (λ b. b ≡ writes_message msg.now) }
-{
-    is_sourced(msg);
-    let mut bytes = Vec::with_capacity(alloc, FEW_BYTES)?;
-    write_message(&mut bytes, msg)?;
-    Ok(ByteString::new(bytes))
-}
-
-// The source of a snapshot is an identifier, as its type keeps it.
-fn is_sourced(msg: &Msg)
-    ensures { IsSourced msg.now }
-{
-    if let Msg::Snap { source, .. } = msg {
-        let _ = source.bytes();
-    }
 }

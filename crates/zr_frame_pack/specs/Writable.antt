@@ -1,11 +1,8 @@
 -- Messages that a router sends: each has a spelling, or is a snapshot that has one since its source is an identifier.
-use Rattle.std.specs.Prelude.{◌≡◌, ◌<◌, ◌≤◌, ◌⊎◌, true, List}
-use Rattle.std.specs.List.{AllByRecursion}
+use Rattle.std.specs.Prelude.{◌≡◌, ◌<◌, ◌≤◌, ◌⊎◌, true}
 use Rattle.zr_id.specs.Zid.{is_zid}
 use Rattle.zr_msg.specs.declared.msg.Msg.{Msg}
 use Rattle.zr_msg.specs.declared.msg.Msg.TheVariants.{Sub, Unsub, Token, Untoken, Able, Unable, Interest, EndInterest, ToldSub, ToldAble, ToldUnsub, ToldToken, ToldUntoken, ToldUnable, ToldEnd, Push, Request, Response, Final, State, Step, Snap}
-use Rattle.zr_msg.specs.declared.content.Parts.{Parts}
-use Rattle.zr_pend_spec.specs.Held.{GatheringState}
 use Rattle.zr_log_set.specs.Decls.{IsSet, weight, most_weight}
 use Rattle.zr_wire.specs.Writing.{IsSpelled}
 
@@ -36,13 +33,6 @@ IsLightSnap (Step source number added decl) = ⊥
 
 abbrev pub IsWritable : Msg → Type 0
 IsWritable m = IsSpelled m ⊎ IsLightSnap m
-
--- a reply has a spelling, under whatever number it goes, and so has all that a router holds
-abbrev pub IsReplySpelled : Parts → Type 0
-IsReplySpelled content = IsSpelled (Response 0 content)
-
-abbrev pub HoldsSpelled : List GatheringState → Type 0
-HoldsSpelled held = AllByRecursion (λ g. AllByRecursion (λ c. IsReplySpelled c) g.held) held
 
 -- the source of a snapshot is an identifier, as its type keeps it
 abbrev pub IsSourced : Msg → Type 0

@@ -1,0 +1,14 @@
+-- What a router holds of replies has a spelling.
+use Rattle.std.specs.Prelude.{List}
+use Rattle.std.specs.List.{AllByRecursion}
+use Rattle.zr_msg.specs.declared.content.Parts.{Parts}
+use Rattle.zr_msg.specs.declared.msg.Msg.TheVariants.{Response}
+use Rattle.zr_pend_spec.specs.Held.{GatheringState}
+use Rattle.zr_wire.specs.Writing.{IsSpelled}
+
+-- a reply has a spelling, under whatever number it goes, and so has all that a router holds
+abbrev pub IsReplySpelled : Parts → Type 0
+IsReplySpelled content = IsSpelled (Response 0 content)
+
+abbrev pub HoldsSpelled : List GatheringState → Type 0
+HoldsSpelled held = AllByRecursion (λ g. AllByRecursion (λ c. IsReplySpelled c) g.held) held
