@@ -9,4 +9,4 @@ mod writing;
 pub use laws::{keys_are_read, keys_have_one_reading, written_keys_are_read};
 pub use reading::{read_key, read_parts};
 pub use scopes::{ScopeError, Scopes};
-pub use writing::write_key;
+pub use writing::{write_key, write_name};
