@@ -259,7 +259,7 @@ same_error x y h = cc
 -- ---- a router with its clients, where memory hasn't run out: `self` is what contracts see of it
 
 module _ (n : NodeState) (told : Maps) (spent : Bool) (self : HubState) (view_is : record { node = spent_as n spent; told = by_link n.links (λ k. map_on told k) } ≡ self) (awake : spent ≡ false) (sound : IsSound n told) (event : Event) where
-  whole : hub_of n told ≡ self
+  pub whole : hub_of n told ≡ self
   whole = (λ i. record { node = sym (same_spent n spent (sound.awake ∙ sym awake)) i; told = by_link n.links (λ k. map_on told k) }) ∙ view_is
 
   module _ (now : NodeState) (now_told : Maps) (said all : List (LinkNo × Msg)) where

@@ -7,3 +7,4 @@ pub mod Telling
 pub mod Few
 pub mod Bounds
 pub mod Joined
+pub mod Calm

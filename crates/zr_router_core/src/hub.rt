@@ -8,6 +8,7 @@ ghost use Rattle.zr_node_spec.specs.Tables.{link_at, link_to, free_link};
 ghost use Rattle.zr_node_spec.specs.Event.{AreLinks, MayCome};
 ghost use Rattle.zr_told_spec.specs.Hub.{new_hub, hub_after, HubSends, HubSendsPrefix};
 ghost use Rattle.zr_node.specs.Answer.{IsAnswered};
+ghost use Rattle.zr_router_core.specs.Calm.{IsCalm};
 ghost use Rattle.zr_router_core.specs.Done.{hub_refusal_of};
 
 use crate::failure::HubFailure;
@@ -136,6 +137,13 @@ impl Hub {
         ensures { result.0 ≡ free_link self.now.node.links }
     {
         self.node.free_link()
+    }
+
+    /// Whether memory has not run out. Then a sample changes nothing of the router, nobody is told anything of it, and it is taken.
+    pub fn is_calm(&self) -> bool
+        ensures { result ≡ true → IsCalm self.now }
+    {
+        !self.spent
     }
 
     /// Handles an event, and appends what it sends, each message with its link: what the router sends, and behind that on each link what its
