@@ -96,7 +96,7 @@ module _ (f : Move → ℕ) where
           let more = ih found in
           omega (arith, one, two, more)
 
-  -- ---- a message more on the wire at an end, where it is there
+  -- ---- a message more at an end, where it is there
 
   -- an end that comes before all others is none of them
   unmatched : (p e : End) (es : Ends) (change : EndState → EndState) → e ≡ p → AllByRecursion (λ y. end_cmp p y ≡ Less) (keys_of es) → changed es e change ≡ es
@@ -105,27 +105,39 @@ module _ (f : Move → ℕ) where
       let apart : is_end e q.0 ≡ false = ap (λ z. is_end z q.0) same ∙ ap is_eq less.0 in
       ap (λ b. cond b (q.0, change q.1) q ∷ changed es e change) apart ∙ ap (λ l. q ∷ l) (unmatched p e es change same less.1)
 
-  pub weigh_sent : (es : Ends) (e : End) (m : Msg) (tag : ℕ) → IsStrictlySortedBy end_cmp (keys_of es) →
-      weigh f (under_way (changed es e (λ s. sent s m tag))) ≡ weigh f (under_way es) + weigh f (cond (is_some (end_of es e)) (Handling e (tagged tag m) ∷ []) [])
+  -- where a change of an end adds what waits there
+  pub weigh_changed : (es : Ends) (e : End) (change : EndState → EndState) (more : End → List Move) → ((q : End) (s : EndState) → at q (change s) ≡ at q s + weigh f (more q)) →
+      IsStrictlySortedBy end_cmp (keys_of es) → weigh f (under_way (changed es e change)) ≡ weigh f (under_way es) + weigh f (cond (is_some (end_of es e)) (more e) [])
   unfolding IsStrictlySortedBy
-  weigh_sent [] e m tag sorted = omega arith
-  weigh_sent (p ∷ es) e m tag sorted = by (is_end e p.0) refl (weigh_sent es e m tag sorted.1)
+  weigh_changed [] e change more adds sorted = omega arith
+  weigh_changed (p ∷ es) e change more adds sorted = by (is_end e p.0) refl (weigh_changed es e change more adds sorted.1)
     where
-      by : (b : Bool) → is_end e p.0 ≡ b → weigh f (under_way (changed es e (λ s. sent s m tag))) ≡ weigh f (under_way es) + weigh f (cond (is_some (end_of es e)) (Handling e (tagged tag m) ∷ []) []) →
-          weigh f (under_way (cond b (p.0, sent p.1 m tag) p ∷ changed es e (λ s. sent s m tag)))
-          ≡ weigh f (under_way (p ∷ es)) + weigh f (cond (is_some (cond b (Some p.1) (end_of es e))) (Handling e (tagged tag m) ∷ []) [])
+      by : (b : Bool) → is_end e p.0 ≡ b → weigh f (under_way (changed es e change)) ≡ weigh f (under_way es) + weigh f (cond (is_some (end_of es e)) (more e) []) →
+          weigh f (under_way (cond b (p.0, change p.1) p ∷ changed es e change))
+          ≡ weigh f (under_way (p ∷ es)) + weigh f (cond (is_some (cond b (Some p.1) (end_of es e))) (more e) [])
       by true k ih =
           let key : e ≡ p.0 = same_end e p.0 k in
-          let rest = ap (λ l. weigh f (under_way l)) (unmatched p.0 e es (λ s. sent s m tag) key sorted.0) in
-          let one = weigh-append f (at_end p.0 (sent p.1 m tag)) (under_way (changed es e (λ s. sent s m tag))) in
+          let rest = ap (λ l. weigh f (under_way l)) (unmatched p.0 e es change key sorted.0) in
+          let one = weigh-append f (at_end p.0 (change p.1)) (under_way (changed es e change)) in
           let two = weigh-append f (at_end p.0 p.1) (under_way es) in
-          let here = at_sent p.0 p.1 m tag in
-          let named = ap (λ z. f (Handling z (tagged tag m))) key in
+          let here = adds p.0 p.1 in
+          let named = ap (λ z. weigh f (more z)) key in
           omega (arith, rest, one, two, here, named)
       by false k ih =
-          let one = weigh-append f (at_end p.0 p.1) (under_way (changed es e (λ s. sent s m tag))) in
+          let one = weigh-append f (at_end p.0 p.1) (under_way (changed es e change)) in
           let two = weigh-append f (at_end p.0 p.1) (under_way es) in
           omega (arith, one, two, ih)
+
+  pub weigh_sent : (es : Ends) (e : End) (m : Msg) (tag : ℕ) → IsStrictlySortedBy end_cmp (keys_of es) →
+      weigh f (under_way (changed es e (λ s. sent s m tag))) ≡ weigh f (under_way es) + weigh f (cond (is_some (end_of es e)) (Handling e (tagged tag m) ∷ []) [])
+  weigh_sent es e m tag sorted =
+      weigh_changed es e (λ s. sent s m tag) (λ q. Handling q (tagged tag m) ∷ []) (λ q s. let one = at_sent q s m tag in omega (arith, one)) sorted
+
+  -- a message more in the queue of an end, where it is there
+  pub weigh_enqueued : (es : Ends) (e : End) (m : Msg) (tag : ℕ) → IsStrictlySortedBy end_cmp (keys_of es) →
+      weigh f (under_way (changed es e (λ s. queued s (m ∷ []) tag))) ≡ weigh f (under_way es) + weigh f (cond (is_some (end_of es e)) (Taking e (tagged tag m) ∷ []) [])
+  weigh_enqueued es e m tag sorted =
+      weigh_changed es e (λ s. queued s (m ∷ []) tag) (λ q. Taking q (tagged tag m) ∷ []) (λ q s. at_queued q s (m ∷ []) tag) sorted
 
 -- ---- ends at which nothing waits
 
