@@ -20,9 +20,10 @@ use std::marker::Model;
 use std::mem;
 use std::thread::Threads;
 use zr_netrun_report::counts::Counts;
-use zr_netrun_report::waiting::{put_line, tell_lines, write_if_enough, write_out};
+use zr_netrun_report::waiting::{tell_lines, write_if_enough, write_out};
 use zr_outside::sink::{Sink, WriteFailed};
 use zr_script::line::{MOST_LINE, read_line};
+use zr_script::text::line_text;
 use zr_script_spec::command::{Act, Command};
 use zr_script_spec::error::ScriptError;
 use zr_script_spec::report::ReportLine;
@@ -49,9 +50,8 @@ pub struct Runner {
     world: World,
     number: u64,
     line: Vec<u8>,
-    // the report lines of an act, and the text of one of them: kept for their memory alone
+    // the report lines of an act: kept for their memory alone
     report: Vec<ReportLine>,
-    text: Vec<u8>,
     pending: Vec<u8>,
     counts: Option<Counts>,
 }
@@ -65,7 +65,6 @@ impl Drop for Runner {
             number: _number,
             line: _line,
             report: _report,
-            text: _text,
             pending: _pending,
             counts: _counts,
         } = self;
@@ -96,7 +95,6 @@ impl Runner {
             number: 0,
             line: Vec::new(alloc),
             report: Vec::new(alloc),
-            text: Vec::new(alloc),
             pending: Vec::new(alloc),
             counts,
         }
@@ -342,7 +340,6 @@ impl Runner {
             &mut self.counts,
             &self.world,
             &self.report,
-            &mut self.text,
             &mut self.pending,
         )?;
         write_if_enough(&mut self.pending, out)?;
@@ -370,7 +367,6 @@ impl Runner {
             &mut self.counts,
             &self.world,
             &self.report,
-            &mut self.text,
             &mut self.pending,
         )?;
         write_if_enough(&mut self.pending, out)?;
@@ -439,7 +435,7 @@ impl Runner {
         ensures later { K.faults out.old ≤ K.faults out.new }
     {
         let quiet = is_quiet(&self.world);
-        put_end(done, quiet, &mut self.text, &mut self.pending)?;
+        put_end(done, quiet, &mut self.pending)?;
         write_if_enough(&mut self.pending, out)?;
         Ok(())
     }
@@ -527,14 +523,9 @@ fn is_quiet(world: &World) -> bool
 
 // The last line of a run waits behind what waited. Where memory runs out nothing more waits. This stands apart for the proof alone: a report
 // line that is let go within a method leaves a case there for each of its variants.
-fn put_end(
-    done: u32,
-    quiet: bool,
-    text: &mut Vec<u8>,
-    pending: &mut Vec<u8>,
-) -> Result<(), AllocError>
+fn put_end(done: u32, quiet: bool, pending: &mut Vec<u8>) -> Result<(), AllocError>
     ensures ok { OnOk result (pending.new.items ≡ pending.old.items ++ line_text (ReportLine.Ran done quiet)) }
     ensures err { OnErr result (pending.new.items ≡ pending.old.items) }
 {
-    put_line(&ReportLine::Ran { steps: done, quiet }, text, pending)
+    line_text(&ReportLine::Ran { steps: done, quiet }, pending)
 }

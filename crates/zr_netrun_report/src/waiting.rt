@@ -20,12 +20,11 @@ use zr_world::world::World;
 const MOST_PENDING: usize = 65_536;
 
 /// Report lines of this world are counted, where there are counts; else their texts wait behind what waited. Where memory runs out nothing
-/// more waits. `text` is overwritten: it is kept for its memory alone.
+/// more waits.
 pub fn tell_lines(
     counts: &mut Option<Counts>,
     world: &World,
     report: &[ReportLine],
-    text: &mut Vec<u8>,
     pending: &mut Vec<u8>,
 ) -> Result<(), AllocError>
     ensures counts { counts.new ≡ option_map (λ c. with_lines world.now.state.routers c report.now) counts.old }
@@ -37,41 +36,23 @@ pub fn tell_lines(
             counts.add(report, world);
             Ok(())
         }
-        None => put_lines(report, text, pending),
+        None => put_lines(report, pending),
     }
 }
 
 // The texts of report lines wait behind what waited. Where memory runs out nothing more waits.
-fn put_lines(
-    report: &[ReportLine],
-    text: &mut Vec<u8>,
-    pending: &mut Vec<u8>,
-) -> Result<(), AllocError>
+fn put_lines(report: &[ReportLine], pending: &mut Vec<u8>) -> Result<(), AllocError>
     ensures ok { OnOk result (pending.new.items ≡ pending.old.items ++ flat_map line_text report.now) }
     ensures err { OnErr result (pending.new.items ≡ pending.old.items) }
 {
     let before = pending.len();
     for line in report {
-        if put_line(line, text, pending).is_err() {
+        if line_text(line, pending).is_err() {
             pending.truncate(before);
             return Err(AllocError);
         }
     }
     Ok(())
-}
-
-/// The text of a report line waits behind what waited. Where memory runs out nothing more waits. `text` is overwritten: it is kept for
-/// its memory alone.
-pub fn put_line(
-    line: &ReportLine,
-    text: &mut Vec<u8>,
-    pending: &mut Vec<u8>,
-) -> Result<(), AllocError>
-    ensures ok { OnOk result (pending.new.items ≡ pending.old.items ++ line_text line.now) }
-    ensures err { OnErr result (pending.new.items ≡ pending.old.items) }
-{
-    line_text(line, text)?;
-    pending.extend_from_slice(text)
 }
 
 /// What waits is written. After a failure nothing waits any more, of which a prefix was written.

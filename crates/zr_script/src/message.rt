@@ -1,12 +1,13 @@
 //! The text of a message, one form a variant.
 
-ghost use Rattle.std.specs.Prelude.{◌≡◌, ◌++◌, ◌∷◌, codes, OnOk};
+ghost use Rattle.std.specs.Prelude.{◌≡◌, ◌++◌, ◌∷◌, codes, OnOk, OnErr};
 ghost use Rattle.std.specs.Fmt.{decimal};
 ghost use Rattle.std.specs.List.{flat_map};
 ghost use Rattle.zr_body.specs.Latest.{is_latest, stamp_of};
 ghost use Rattle.zr_body.specs.Payload.{payload_of};
 ghost use Rattle.zr_msg.specs.Groups.{group_of};
 ghost use Rattle.zr_script_spec.specs.Report.{id_text, optional_id_text, payload_text, interest_text, kinds_text, key_text, if_so, target_text, time_text, sign_text, linked_text, links_text, record_text, decl_text, msg_text};
+ghost use Rattle.zr_bytes.specs.Writing.{KeepsFront};
 
 use crate::part::{
     able_text, aggregate_text, kind_text, kinds_text, latest_text, mode_text, put_id, put_interest,
@@ -24,7 +25,8 @@ use zr_msg::msg::{Group, Kinds, Msg, Target};
 
 /// Appends the text of a message.
 pub fn put_msg(msg: &Msg, out: &mut Vec<u8>) -> Result<(), AllocError>
-    ensures { OnOk result (out.new.items ≡ out.old.items ++ msg_text msg.now) }
+    ensures ok { OnOk result (out.new.items ≡ out.old.items ++ msg_text msg.now) }
+    ensures err { OnErr result (KeepsFront out.old.items out.new.items) }
 {
     match msg.group() {
         Group::Declared => put_declaration(msg, out),
@@ -36,7 +38,8 @@ pub fn put_msg(msg: &Msg, out: &mut Vec<u8>) -> Result<(), AllocError>
 
 fn put_declaration(msg: &Msg, out: &mut Vec<u8>) -> Result<(), AllocError>
     requires { group_of msg.now ≡ Group.Declared }
-    ensures { OnOk result (out.new.items ≡ out.old.items ++ msg_text msg.now) }
+    ensures ok { OnOk result (out.new.items ≡ out.old.items ++ msg_text msg.now) }
+    ensures err { OnErr result (KeepsFront out.old.items out.new.items) }
 {
     match msg {
         Msg::Sub { id, key } => put_declared(b"sub", *id, key, out),
@@ -67,7 +70,8 @@ fn put_declaration(msg: &Msg, out: &mut Vec<u8>) -> Result<(), AllocError>
 
 fn put_told_message(msg: &Msg, out: &mut Vec<u8>) -> Result<(), AllocError>
     requires { group_of msg.now ≡ Group.Told }
-    ensures { OnOk result (out.new.items ≡ out.old.items ++ msg_text msg.now) }
+    ensures ok { OnOk result (out.new.items ≡ out.old.items ++ msg_text msg.now) }
+    ensures err { OnErr result (KeepsFront out.old.items out.new.items) }
 {
     match msg {
         Msg::ToldSub { id, key, interest } => put_told(b"told sub", *id, key, *interest, out),
@@ -88,7 +92,8 @@ fn put_told_message(msg: &Msg, out: &mut Vec<u8>) -> Result<(), AllocError>
 
 fn put_routed(msg: &Msg, out: &mut Vec<u8>) -> Result<(), AllocError>
     requires { group_of msg.now ≡ Group.Routed }
-    ensures { OnOk result (out.new.items ≡ out.old.items ++ msg_text msg.now) }
+    ensures ok { OnOk result (out.new.items ≡ out.old.items ++ msg_text msg.now) }
+    ensures err { OnErr result (KeepsFront out.old.items out.new.items) }
 {
     match msg {
         Msg::Push { tree, content } => put_sample(tree, content, out),
@@ -106,7 +111,8 @@ fn put_routed(msg: &Msg, out: &mut Vec<u8>) -> Result<(), AllocError>
 
 fn put_flooded(msg: &Msg, out: &mut Vec<u8>) -> Result<(), AllocError>
     requires { group_of msg.now ≡ Group.Flooded }
-    ensures { OnOk result (out.new.items ≡ out.old.items ++ msg_text msg.now) }
+    ensures ok { OnOk result (out.new.items ≡ out.old.items ++ msg_text msg.now) }
+    ensures err { OnErr result (KeepsFront out.old.items out.new.items) }
 {
     match msg {
         Msg::State { links } => put_record(links.get(), out),
@@ -127,13 +133,15 @@ fn put_flooded(msg: &Msg, out: &mut Vec<u8>) -> Result<(), AllocError>
 
 // Some words, and the id or the number that stands behind them.
 fn put_under(words: &[u8], id: u32, out: &mut Vec<u8>) -> Result<(), AllocError>
-    ensures { OnOk result (out.new.items ≡ out.old.items ++ (words.now ++ decimal id)) }
+    ensures ok { OnOk result (out.new.items ≡ out.old.items ++ (words.now ++ decimal id)) }
+    ensures err { OnErr result (KeepsFront out.old.items out.new.items) }
 {
     put_numbered(words, u64::from(id), out)
 }
 
 fn put_declared(word: &[u8], id: u32, key: &KeyExpr, out: &mut Vec<u8>) -> Result<(), AllocError>
-    ensures { OnOk result (out.new.items ≡ out.old.items ++ (word.now ++ codes " " ++ decimal id ++ codes " " ++ key.now)) }
+    ensures ok { OnOk result (out.new.items ≡ out.old.items ++ (word.now ++ codes " " ++ decimal id ++ codes " " ++ key.now)) }
+    ensures err { OnErr result (KeepsFront out.old.items out.new.items) }
 {
     out.extend_from_slice(word)?;
     put_under(b" ", id, out)?;
@@ -148,7 +156,8 @@ fn put_asked(
     aggregate: bool,
     out: &mut Vec<u8>,
 ) -> Result<(), AllocError>
-    ensures { OnOk result (out.new.items ≡ out.old.items ++ (codes "interest " ++ decimal id ++ codes " " ++ mode.now ++ codes " " ++ kinds_text kinds ++ codes " " ++ key_text key.now ++ if_so aggregate (codes "aggregate"))) }
+    ensures ok { OnOk result (out.new.items ≡ out.old.items ++ (codes "interest " ++ decimal id ++ codes " " ++ mode.now ++ codes " " ++ kinds_text kinds ++ codes " " ++ key_text key.now ++ if_so aggregate (codes "aggregate"))) }
+    ensures err { OnErr result (KeepsFront out.old.items out.new.items) }
 {
     put_terms(id, mode, kinds, out)?;
     put_key(key, out)?;
@@ -156,7 +165,8 @@ fn put_asked(
 }
 
 fn put_terms(id: u32, mode: &[u8], kinds: Kinds, out: &mut Vec<u8>) -> Result<(), AllocError>
-    ensures { OnOk result (out.new.items ≡ out.old.items ++ (codes "interest " ++ decimal id ++ codes " " ++ mode.now ++ codes " " ++ kinds_text kinds ++ codes " ")) }
+    ensures ok { OnOk result (out.new.items ≡ out.old.items ++ (codes "interest " ++ decimal id ++ codes " " ++ mode.now ++ codes " " ++ kinds_text kinds ++ codes " ")) }
+    ensures err { OnErr result (KeepsFront out.old.items out.new.items) }
 {
     put_under(b"interest ", id, out)?;
     put_word(mode, out)?;
@@ -171,7 +181,8 @@ fn put_told(
     interest: Option<u32>,
     out: &mut Vec<u8>,
 ) -> Result<(), AllocError>
-    ensures { OnOk result (out.new.items ≡ out.old.items ++ (word.now ++ codes " " ++ decimal id ++ codes " " ++ key.now ++ codes " " ++ interest_text interest)) }
+    ensures ok { OnOk result (out.new.items ≡ out.old.items ++ (word.now ++ codes " " ++ decimal id ++ codes " " ++ key.now ++ codes " " ++ interest_text interest)) }
+    ensures err { OnErr result (KeepsFront out.old.items out.new.items) }
 {
     put_declared(word, id, key, out)?;
     out.extend_from_slice(b" ")?;
@@ -179,7 +190,8 @@ fn put_told(
 }
 
 fn put_sample(tree: &Option<Zid>, content: &Content, out: &mut Vec<u8>) -> Result<(), AllocError>
-    ensures { OnOk result (out.new.items ≡ out.old.items ++ msg_text (Msg.Push tree.now content.now)) }
+    ensures ok { OnOk result (out.new.items ≡ out.old.items ++ msg_text (Msg.Push tree.now content.now)) }
+    ensures err { OnErr result (KeepsFront out.old.items out.new.items) }
 {
     if content.body().is_del() {
         put_kind(b"del ", b"del - ", tree, out)?;
@@ -198,7 +210,8 @@ fn put_kind(
     out: &mut Vec<u8>,
 ) -> Result<(), AllocError>
     requires { alone.now ≡ word.now ++ codes "- " }
-    ensures { OnOk result (out.new.items ≡ out.old.items ++ (word.now ++ optional_id_text tree.now ++ codes " ")) }
+    ensures ok { OnOk result (out.new.items ≡ out.old.items ++ (word.now ++ optional_id_text tree.now ++ codes " ")) }
+    ensures err { OnErr result (KeepsFront out.old.items out.new.items) }
 {
     match tree {
         None => out.extend_from_slice(alone),
@@ -211,7 +224,8 @@ fn put_kind(
 }
 
 fn put_content(content: &Content, out: &mut Vec<u8>) -> Result<(), AllocError>
-    ensures { OnOk result (out.new.items ≡ out.old.items ++ (content.now.key ++ codes " " ++ payload_text (payload_of content.now.body))) }
+    ensures ok { OnOk result (out.new.items ≡ out.old.items ++ (content.now.key ++ codes " " ++ payload_text (payload_of content.now.body))) }
+    ensures err { OnErr result (KeepsFront out.old.items out.new.items) }
 {
     out.extend_from_slice(content.key().text().as_bytes())?;
     out.extend_from_slice(b" ")?;
@@ -225,7 +239,8 @@ fn put_request(
     content: &Content,
     out: &mut Vec<u8>,
 ) -> Result<(), AllocError>
-    ensures { OnOk result (out.new.items ≡ out.old.items ++ (codes "get " ++ optional_id_text tree.now ++ codes " " ++ decimal id ++ codes " " ++ content.now.key ++ codes " " ++ target_text target ++ if_so (is_latest content.now.body) (codes "latest"))) }
+    ensures ok { OnOk result (out.new.items ≡ out.old.items ++ (codes "get " ++ optional_id_text tree.now ++ codes " " ++ decimal id ++ codes " " ++ content.now.key ++ codes " " ++ target_text target ++ if_so (is_latest content.now.body) (codes "latest"))) }
+    ensures err { OnErr result (KeepsFront out.old.items out.new.items) }
 {
     put_kind(b"get ", b"get - ", tree, out)?;
     put_number(u64::from(id), out)?;
@@ -235,7 +250,8 @@ fn put_request(
 }
 
 fn put_reply(id: u32, content: &Content, out: &mut Vec<u8>) -> Result<(), AllocError>
-    ensures { OnOk result (out.new.items ≡ out.old.items ++ (codes "reply " ++ decimal id ++ codes " " ++ content.now.key ++ codes " " ++ payload_text (payload_of content.now.body) ++ time_text (stamp_of content.now.body))) }
+    ensures ok { OnOk result (out.new.items ≡ out.old.items ++ (codes "reply " ++ decimal id ++ codes " " ++ content.now.key ++ codes " " ++ payload_text (payload_of content.now.body) ++ time_text (stamp_of content.now.body))) }
+    ensures err { OnErr result (KeepsFront out.old.items out.new.items) }
 {
     put_under(b"reply ", id, out)?;
     out.extend_from_slice(b" ")?;
@@ -245,7 +261,8 @@ fn put_reply(id: u32, content: &Content, out: &mut Vec<u8>) -> Result<(), AllocE
 
 // The time of a reply that has one, behind a space.
 fn put_time(body: &Body, out: &mut Vec<u8>) -> Result<(), AllocError>
-    ensures { OnOk result (out.new.items ≡ out.old.items ++ time_text (stamp_of body.now)) }
+    ensures ok { OnOk result (out.new.items ≡ out.old.items ++ time_text (stamp_of body.now)) }
+    ensures err { OnErr result (KeepsFront out.old.items out.new.items) }
 {
     match stamp(body) {
         None => Ok(()),
@@ -255,7 +272,8 @@ fn put_time(body: &Body, out: &mut Vec<u8>) -> Result<(), AllocError>
 
 /// Appends a link record.
 pub fn put_record(state: &LinkRecord, out: &mut Vec<u8>) -> Result<(), AllocError>
-    ensures { OnOk result (out.new.items ≡ out.old.items ++ record_text state.now) }
+    ensures ok { OnOk result (out.new.items ≡ out.old.items ++ record_text state.now) }
+    ensures err { OnErr result (KeepsFront out.old.items out.new.items) }
 {
     put_named(b"record ", &state.id(), out)?;
     put_numbered(b" ", state.seq(), out)?;
@@ -265,7 +283,8 @@ pub fn put_record(state: &LinkRecord, out: &mut Vec<u8>) -> Result<(), AllocErro
 
 /// Appends the links of a record, parted by commas; `-` where there are none.
 pub fn put_links(links: &[Linked], out: &mut Vec<u8>) -> Result<(), AllocError>
-    ensures { OnOk result (out.new.items ≡ out.old.items ++ links_text links.now) }
+    ensures ok { OnOk result (out.new.items ≡ out.old.items ++ links_text links.now) }
+    ensures err { OnErr result (KeepsFront out.old.items out.new.items) }
 {
     match links {
         [] => out.extend_from_slice(b"-"),
@@ -277,7 +296,8 @@ pub fn put_links(links: &[Linked], out: &mut Vec<u8>) -> Result<(), AllocError>
 }
 
 fn put_others(links: &[Linked], out: &mut Vec<u8>) -> Result<(), AllocError>
-    ensures { OnOk result (out.new.items ≡ out.old.items ++ flat_map (λ link. 44 ∷ linked_text link) links.now) }
+    ensures ok { OnOk result (out.new.items ≡ out.old.items ++ flat_map (λ link. 44 ∷ linked_text link) links.now) }
+    ensures err { OnErr result (KeepsFront out.old.items out.new.items) }
 {
     for link in links {
         out.extend_from_slice(b",")?;
@@ -288,7 +308,8 @@ fn put_others(links: &[Linked], out: &mut Vec<u8>) -> Result<(), AllocError>
 
 // A link of a record, with its weight where that isn't 1.
 fn put_link(link: &Linked, out: &mut Vec<u8>) -> Result<(), AllocError>
-    ensures { OnOk result (out.new.items ≡ out.old.items ++ linked_text link.now) }
+    ensures ok { OnOk result (out.new.items ≡ out.old.items ++ linked_text link.now) }
+    ensures err { OnErr result (KeepsFront out.old.items out.new.items) }
 {
     put_id(&link.id, out)?;
     if link.weight == 1 {
@@ -305,7 +326,8 @@ fn put_entry(
     decl: &Decl,
     out: &mut Vec<u8>,
 ) -> Result<(), AllocError>
-    ensures { OnOk result (out.new.items ≡ out.old.items ++ (codes "entry " ++ id_text source.now ++ codes " " ++ decimal number ++ codes " " ++ sign_text added ++ decl_text decl.now)) }
+    ensures ok { OnOk result (out.new.items ≡ out.old.items ++ (codes "entry " ++ id_text source.now ++ codes " " ++ decimal number ++ codes " " ++ sign_text added ++ decl_text decl.now)) }
+    ensures err { OnErr result (KeepsFront out.old.items out.new.items) }
 {
     put_named(b"entry ", source, out)?;
     put_numbered(b" ", number, out)?;
@@ -319,7 +341,8 @@ fn put_snapshot(
     decls: &[Decl],
     out: &mut Vec<u8>,
 ) -> Result<(), AllocError>
-    ensures { OnOk result (out.new.items ≡ out.old.items ++ (codes "snap " ++ id_text source.now ++ codes " " ++ decimal number ++ flat_map decl_text decls.now)) }
+    ensures ok { OnOk result (out.new.items ≡ out.old.items ++ (codes "snap " ++ id_text source.now ++ codes " " ++ decimal number ++ flat_map decl_text decls.now)) }
+    ensures err { OnErr result (KeepsFront out.old.items out.new.items) }
 {
     put_named(b"snap ", source, out)?;
     put_numbered(b" ", number, out)?;
@@ -328,7 +351,8 @@ fn put_snapshot(
 
 /// Several declarations, each behind a space.
 pub fn put_decls(decls: &[Decl], out: &mut Vec<u8>) -> Result<(), AllocError>
-    ensures { OnOk result (out.new.items ≡ out.old.items ++ flat_map decl_text decls.now) }
+    ensures ok { OnOk result (out.new.items ≡ out.old.items ++ flat_map decl_text decls.now) }
+    ensures err { OnErr result (KeepsFront out.old.items out.new.items) }
 {
     for decl in decls {
         put_decl(decl, out)?;
@@ -337,7 +361,8 @@ pub fn put_decls(decls: &[Decl], out: &mut Vec<u8>) -> Result<(), AllocError>
 }
 
 fn put_decl(decl: &Decl, out: &mut Vec<u8>) -> Result<(), AllocError>
-    ensures { OnOk result (out.new.items ≡ out.old.items ++ decl_text decl.now) }
+    ensures ok { OnOk result (out.new.items ≡ out.old.items ++ decl_text decl.now) }
+    ensures err { OnErr result (KeepsFront out.old.items out.new.items) }
 {
     out.extend_from_slice(kind_text(decl.kind))?;
     out.extend_from_slice(decl.key.text().as_bytes())

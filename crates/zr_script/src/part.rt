@@ -1,9 +1,10 @@
 //! The parts of a message's text: identifiers, numbers, and the words that stand for what may be left out.
 
-ghost use Rattle.std.specs.Prelude.{◌≡◌, ◌++◌, codes, OnOk};
+ghost use Rattle.std.specs.Prelude.{◌≡◌, ◌++◌, codes, OnOk, OnErr};
 ghost use Rattle.std.specs.Fmt.{decimal};
 ghost use Rattle.zr_msg.specs.Kinds.{in_subs, in_ables, in_tokens};
 ghost use Rattle.zr_script_spec.specs.Report.{line_end, id_text, optional_id_text, payload_text, key_text, interest_text, mode_text, kinds_text, if_so, able_text, target_text, kind_text, sign_text};
+ghost use Rattle.zr_bytes.specs.Writing.{KeepsFront};
 
 use itoa::{Buffer, write_digits};
 use std::alloc::AllocError;
@@ -26,7 +27,8 @@ const TAG_END: usize = TAG_SIGN_LENGTH + MOST_TAG_DIGITS;
 
 /// Appends an identifier. Its digits are put together on the stack: a report line takes no memory but its own.
 pub fn put_id(id: &Zid, out: &mut Vec<u8>) -> Result<(), AllocError>
-    ensures { OnOk result (out.new.items ≡ out.old.items ++ id_text id.now) }
+    ensures ok { OnOk result (out.new.items ≡ out.old.items ++ id_text id.now) }
+    ensures err { OnErr result (KeepsFront out.old.items out.new.items) }
 {
     let bytes = id.bytes();
     let mut digits = [0; MOST_DIGITS];
@@ -39,7 +41,8 @@ pub fn put_id(id: &Zid, out: &mut Vec<u8>) -> Result<(), AllocError>
 
 /// Appends the decimal digits of a number.
 pub fn put_number(number: u64, out: &mut Vec<u8>) -> Result<(), AllocError>
-    ensures { OnOk result (out.new.items ≡ out.old.items ++ decimal number) }
+    ensures ok { OnOk result (out.new.items ≡ out.old.items ++ decimal number) }
+    ensures err { OnErr result (KeepsFront out.old.items out.new.items) }
 {
     let mut buffer = Buffer::new();
     out.extend_from_slice(buffer.format(number).as_bytes())
@@ -47,7 +50,8 @@ pub fn put_number(number: u64, out: &mut Vec<u8>) -> Result<(), AllocError>
 
 /// Appends some words and an identifier.
 pub fn put_named(words: &[u8], id: &Zid, out: &mut Vec<u8>) -> Result<(), AllocError>
-    ensures { OnOk result (out.new.items ≡ out.old.items ++ (words.now ++ id_text id.now)) }
+    ensures ok { OnOk result (out.new.items ≡ out.old.items ++ (words.now ++ id_text id.now)) }
+    ensures err { OnErr result (KeepsFront out.old.items out.new.items) }
 {
     out.extend_from_slice(words)?;
     put_id(id, out)
@@ -55,7 +59,8 @@ pub fn put_named(words: &[u8], id: &Zid, out: &mut Vec<u8>) -> Result<(), AllocE
 
 /// Appends some words and a number.
 pub fn put_numbered(words: &[u8], number: u64, out: &mut Vec<u8>) -> Result<(), AllocError>
-    ensures { OnOk result (out.new.items ≡ out.old.items ++ (words.now ++ decimal number)) }
+    ensures ok { OnOk result (out.new.items ≡ out.old.items ++ (words.now ++ decimal number)) }
+    ensures err { OnErr result (KeepsFront out.old.items out.new.items) }
 {
     out.extend_from_slice(words)?;
     put_number(number, out)
@@ -63,7 +68,8 @@ pub fn put_numbered(words: &[u8], number: u64, out: &mut Vec<u8>) -> Result<(), 
 
 /// Appends a space and a word.
 pub fn put_word(word: &[u8], out: &mut Vec<u8>) -> Result<(), AllocError>
-    ensures { OnOk result (out.new.items ≡ out.old.items ++ (codes " " ++ word.now)) }
+    ensures ok { OnOk result (out.new.items ≡ out.old.items ++ (codes " " ++ word.now)) }
+    ensures err { OnErr result (KeepsFront out.old.items out.new.items) }
 {
     out.extend_from_slice(b" ")?;
     out.extend_from_slice(word)
@@ -72,7 +78,8 @@ pub fn put_word(word: &[u8], out: &mut Vec<u8>) -> Result<(), AllocError>
 /// Appends the tag of a message, with a space and a sign before it, and the end of its line. They are put together on the stack, and so
 /// appended at once.
 pub fn put_tag(tag: u64, out: &mut Vec<u8>) -> Result<(), AllocError>
-    ensures { OnOk result (out.new.items ≡ out.old.items ++ (codes " #" ++ decimal tag ++ line_end)) }
+    ensures ok { OnOk result (out.new.items ≡ out.old.items ++ (codes " #" ++ decimal tag ++ line_end)) }
+    ensures err { OnErr result (KeepsFront out.old.items out.new.items) }
 {
     let mut text = [b'\n'; TAG_END + 1];
     let start = write_digits(tag, &mut text, TAG_END) - TAG_SIGN_LENGTH;
@@ -83,7 +90,8 @@ pub fn put_tag(tag: u64, out: &mut Vec<u8>) -> Result<(), AllocError>
 
 /// Appends an identifier; `-` where there is none.
 pub fn put_optional_id(id: &Option<Zid>, out: &mut Vec<u8>) -> Result<(), AllocError>
-    ensures { OnOk result (out.new.items ≡ out.old.items ++ optional_id_text id.now) }
+    ensures ok { OnOk result (out.new.items ≡ out.old.items ++ optional_id_text id.now) }
+    ensures err { OnErr result (KeepsFront out.old.items out.new.items) }
 {
     match id {
         None => out.extend_from_slice(b"-"),
@@ -93,7 +101,8 @@ pub fn put_optional_id(id: &Option<Zid>, out: &mut Vec<u8>) -> Result<(), AllocE
 
 /// Appends a payload; `-` where it is empty.
 pub fn put_payload(payload: &[u8], out: &mut Vec<u8>) -> Result<(), AllocError>
-    ensures { OnOk result (out.new.items ≡ out.old.items ++ payload_text payload.now) }
+    ensures ok { OnOk result (out.new.items ≡ out.old.items ++ payload_text payload.now) }
+    ensures err { OnErr result (KeepsFront out.old.items out.new.items) }
 {
     match payload {
         [] => out.extend_from_slice(b"-"),
@@ -103,7 +112,8 @@ pub fn put_payload(payload: &[u8], out: &mut Vec<u8>) -> Result<(), AllocError>
 
 /// Appends the key of an interest; `-` where it has none.
 pub fn put_key(key: &Option<KeyExpr>, out: &mut Vec<u8>) -> Result<(), AllocError>
-    ensures { OnOk result (out.new.items ≡ out.old.items ++ key_text key.now) }
+    ensures ok { OnOk result (out.new.items ≡ out.old.items ++ key_text key.now) }
+    ensures err { OnErr result (KeepsFront out.old.items out.new.items) }
 {
     match key {
         None => out.extend_from_slice(b"-"),
@@ -113,7 +123,8 @@ pub fn put_key(key: &Option<KeyExpr>, out: &mut Vec<u8>) -> Result<(), AllocErro
 
 /// Appends the interest that a told message answers; `-` where it answers none.
 pub fn put_interest(interest: Option<u32>, out: &mut Vec<u8>) -> Result<(), AllocError>
-    ensures { OnOk result (out.new.items ≡ out.old.items ++ interest_text interest) }
+    ensures ok { OnOk result (out.new.items ≡ out.old.items ++ interest_text interest) }
+    ensures err { OnErr result (KeepsFront out.old.items out.new.items) }
 {
     match interest {
         None => out.extend_from_slice(b"-"),

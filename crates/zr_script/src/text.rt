@@ -4,10 +4,12 @@ ghost use Rattle.std.specs.Prelude.{◌≡◌, ◌++◌, [], codes, OnOk, OnErr}
 ghost use Rattle.std.specs.Fmt.{decimal};
 ghost use Rattle.std.specs.List.{flat_map};
 ghost use Rattle.zr_script_spec.specs.Report.{decl_text, line_end, line_text, msg_text, rest_text, id_text, optional_id_text, record_text, refusal_text, refused_text};
+ghost use Rattle.zr_bytes.specs.Writing.{KeepsFront};
 
 use crate::message::{put_decls, put_msg, put_record};
 use crate::part::{put_id, put_named, put_numbered, put_optional_id, put_tag};
 use std::alloc::AllocError;
+use zr_bytes::all_or_nothing;
 use zr_id::record::LinkRecord;
 use zr_id::zid::Zid;
 use zr_msg::decl::Decl;
@@ -15,19 +17,14 @@ use zr_msg::msg::Msg;
 use zr_script_spec::error::ScriptError;
 use zr_script_spec::report::ReportLine;
 
-/// Writes the text of a report line, its end included, in the place of what was there. Where memory runs out nothing is there.
-pub fn line_text(line: &ReportLine, text: &mut Vec<u8>) -> Result<(), AllocError>
-    ensures ok { OnOk result (text.new.items ≡ line_text line.now) }
-    ensures err { OnErr result (text.new.items ≡ []) }
+/// Appends the text of a report line, its end included. Where memory runs out nothing is appended.
+pub fn line_text(line: &ReportLine, out: &mut Vec<u8>) -> Result<(), AllocError>
+    ensures ok { OnOk result (out.new.items ≡ out.old.items ++ line_text line.now) }
+    ensures err { OnErr result (out.new.items ≡ out.old.items) }
 {
-    text.clear();
-    match put_line(line, text) {
-        Ok(()) => Ok(()),
-        Err(_) => {
-            text.clear();
-            Err(AllocError)
-        }
-    }
+    let start = out.len();
+    let put = put_line(line, out);
+    all_or_nothing(out, start, put)
 }
 
 /// Writes `line N: NUMBER NAME`, its end included, in the place of what was there. Where memory runs out nothing is there.
@@ -53,7 +50,8 @@ pub fn put_handled(
     tag: u64,
     out: &mut Vec<u8>,
 ) -> Result<(), AllocError>
-    ensures { OnOk result (out.new.items ≡ out.old.items ++ line_text (ReportLine.Handled router.now from.now msg.now tag)) }
+    ensures ok { OnOk result (out.new.items ≡ out.old.items ++ line_text (ReportLine.Handled router.now from.now msg.now tag)) }
+    ensures err { OnErr result (KeepsFront out.old.items out.new.items) }
 {
     put_step(router, b" < ", from, msg, tag, out)
 }
@@ -66,13 +64,15 @@ pub fn put_taken(
     tag: u64,
     out: &mut Vec<u8>,
 ) -> Result<(), AllocError>
-    ensures { OnOk result (out.new.items ≡ out.old.items ++ line_text (ReportLine.Taken router.now to.now msg.now tag)) }
+    ensures ok { OnOk result (out.new.items ≡ out.old.items ++ line_text (ReportLine.Taken router.now to.now msg.now tag)) }
+    ensures err { OnErr result (KeepsFront out.old.items out.new.items) }
 {
     put_step(router, b" > ", to, msg, tag, out)
 }
 
 fn put_line(line: &ReportLine, out: &mut Vec<u8>) -> Result<(), AllocError>
-    ensures { OnOk result (out.new.items ≡ out.old.items ++ line_text line.now) }
+    ensures ok { OnOk result (out.new.items ≡ out.old.items ++ line_text line.now) }
+    ensures err { OnErr result (KeepsFront out.old.items out.new.items) }
 {
     match line {
         ReportLine::Handled {
@@ -109,17 +109,27 @@ fn put_step(
     tag: u64,
     out: &mut Vec<u8>,
 ) -> Result<(), AllocError>
-    ensures { OnOk result (out.new.items ≡ out.old.items ++ (id_text router.now ++ arrow.now ++ id_text other.now ++ codes ": " ++ msg_text msg.now ++ codes " #" ++ decimal tag ++ line_end)) }
+    ensures ok { OnOk result (out.new.items ≡ out.old.items ++ (id_text router.now ++ arrow.now ++ id_text other.now ++ codes ": " ++ msg_text msg.now ++ codes " #" ++ decimal tag ++ line_end)) }
+    ensures err { OnErr result (KeepsFront out.old.items out.new.items) }
 {
-    put_id(router, out)?;
-    put_named(arrow, other, out)?;
-    out.extend_from_slice(b": ")?;
+    put_ends(router, arrow, other, out)?;
     put_msg(msg, out)?;
     put_tag(tag, out)
 }
 
+// The router and the other end, with the arrow between them.
+fn put_ends(router: &Zid, arrow: &[u8], other: &Zid, out: &mut Vec<u8>) -> Result<(), AllocError>
+    ensures ok { OnOk result (out.new.items ≡ out.old.items ++ (id_text router.now ++ arrow.now ++ id_text other.now ++ codes ": ")) }
+    ensures err { OnErr result (KeepsFront out.old.items out.new.items) }
+{
+    put_id(router, out)?;
+    put_named(arrow, other, out)?;
+    out.extend_from_slice(b": ")
+}
+
 fn put_ran(steps: u32, quiet: bool, out: &mut Vec<u8>) -> Result<(), AllocError>
-    ensures { OnOk result (out.new.items ≡ out.old.items ++ (codes "run " ++ decimal steps ++ rest_text quiet ++ line_end)) }
+    ensures ok { OnOk result (out.new.items ≡ out.old.items ++ (codes "run " ++ decimal steps ++ rest_text quiet ++ line_end)) }
+    ensures err { OnErr result (KeepsFront out.old.items out.new.items) }
 {
     put_numbered(b"run ", u64::from(steps), out)?;
     out.extend_from_slice(rest_text(quiet))?;
@@ -133,7 +143,8 @@ fn rest_text(quiet: bool) -> &'static [u8]
 }
 
 fn put_fanned(lines: &[u8], steps: u64, out: &mut Vec<u8>) -> Result<(), AllocError>
-    ensures { OnOk result (out.new.items ≡ out.old.items ++ (lines.now ++ codes "fan " ++ decimal steps ++ line_end)) }
+    ensures ok { OnOk result (out.new.items ≡ out.old.items ++ (lines.now ++ codes "fan " ++ decimal steps ++ line_end)) }
+    ensures err { OnErr result (KeepsFront out.old.items out.new.items) }
 {
     out.extend_from_slice(lines)?;
     put_numbered(b"fan ", steps, out)?;
@@ -141,28 +152,32 @@ fn put_fanned(lines: &[u8], steps: u64, out: &mut Vec<u8>) -> Result<(), AllocEr
 }
 
 fn put_mark(line: u64, out: &mut Vec<u8>) -> Result<(), AllocError>
-    ensures { OnOk result (out.new.items ≡ out.old.items ++ (codes "mark #" ++ decimal line ++ line_end)) }
+    ensures ok { OnOk result (out.new.items ≡ out.old.items ++ (codes "mark #" ++ decimal line ++ line_end)) }
+    ensures err { OnErr result (KeepsFront out.old.items out.new.items) }
 {
     put_numbered(b"mark #", line, out)?;
     out.extend_from_slice(b"\n")
 }
 
 fn put_show(router: &Zid, out: &mut Vec<u8>) -> Result<(), AllocError>
-    ensures { OnOk result (out.new.items ≡ out.old.items ++ (codes "show " ++ id_text router.now ++ line_end)) }
+    ensures ok { OnOk result (out.new.items ≡ out.old.items ++ (codes "show " ++ id_text router.now ++ line_end)) }
+    ensures err { OnErr result (KeepsFront out.old.items out.new.items) }
 {
     put_named(b"show ", router, out)?;
     out.extend_from_slice(b"\n")
 }
 
 fn put_record_line(record: &LinkRecord, out: &mut Vec<u8>) -> Result<(), AllocError>
-    ensures { OnOk result (out.new.items ≡ out.old.items ++ (record_text record.now ++ line_end)) }
+    ensures ok { OnOk result (out.new.items ≡ out.old.items ++ (record_text record.now ++ line_end)) }
+    ensures err { OnErr result (KeepsFront out.old.items out.new.items) }
 {
     put_record(record, out)?;
     out.extend_from_slice(b"\n")
 }
 
 fn put_parent(root: &Zid, parent: &Option<Zid>, out: &mut Vec<u8>) -> Result<(), AllocError>
-    ensures { OnOk result (out.new.items ≡ out.old.items ++ (codes "parent " ++ id_text root.now ++ codes " " ++ optional_id_text parent.now ++ line_end)) }
+    ensures ok { OnOk result (out.new.items ≡ out.old.items ++ (codes "parent " ++ id_text root.now ++ codes " " ++ optional_id_text parent.now ++ line_end)) }
+    ensures err { OnErr result (KeepsFront out.old.items out.new.items) }
 {
     put_named(b"parent ", root, out)?;
     out.extend_from_slice(b" ")?;
@@ -176,7 +191,8 @@ fn put_source(
     decls: &[Decl],
     out: &mut Vec<u8>,
 ) -> Result<(), AllocError>
-    ensures { OnOk result (out.new.items ≡ out.old.items ++ (codes "source " ++ id_text source.now ++ codes " " ++ decimal number ++ flat_map decl_text decls.now ++ line_end)) }
+    ensures ok { OnOk result (out.new.items ≡ out.old.items ++ (codes "source " ++ id_text source.now ++ codes " " ++ decimal number ++ flat_map decl_text decls.now ++ line_end)) }
+    ensures err { OnErr result (KeepsFront out.old.items out.new.items) }
 {
     put_named(b"source ", source, out)?;
     put_numbered(b" ", number, out)?;
@@ -185,7 +201,8 @@ fn put_source(
 }
 
 fn put_refused(number: u64, error: ScriptError, out: &mut Vec<u8>) -> Result<(), AllocError>
-    ensures { OnOk result (out.new.items ≡ out.old.items ++ refused_text number error) }
+    ensures ok { OnOk result (out.new.items ≡ out.old.items ++ refused_text number error) }
+    ensures err { OnErr result (KeepsFront out.old.items out.new.items) }
 {
     put_numbered(b"line ", number, out)?;
     out.extend_from_slice(b": ")?;

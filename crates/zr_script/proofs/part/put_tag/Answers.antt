@@ -15,8 +15,8 @@ overflow_sub-start c =
     let short : length (decimal c.args.tag) ≤ 20 = search (rules, length-decimal-le 20) in
     omega (arith, short, c.write_digits-start.ensures.start)
 
-pub returns : goal.returns
-returns c =
+pub returns-clause-ok : goal.returns-clause-ok
+returns-clause-ok c =
     let short : length (decimal c.args.tag) ≤ 20 = search (rules, length-decimal-le 20) in
     let text = tag_slice c.write_digits-start.new.buf (decimal c.args.tag) c.write_digits-start.result _ c.write_digits-start.ensures.written
     c.write_digits-start.ensures.start short c.write_digits-start.auto.buf (omega (arith, short, c.write_digits-start.ensures.start)) in

@@ -1,0 +1,6 @@
+use Rattle.zr_script.proofs.Fronts.{keeps_more}
+use Rattle.zr_script.proofs.message.put_content.Goals as goal
+
+pub returns-clause-err : goal.returns-clause-err
+returns-clause-err c =
+    keeps_more _ _ _ _ _ c.in_ok-extend_from_slice.ensures.items (keeps_more _ _ _ _ _ c.in_ok-extend_from_slice-2.ensures.items c.put_payload.ensures.err)

@@ -1,0 +1,7 @@
+use Rattle.zr_script.proofs.Fronts.{keeps_more}
+use Rattle.zr_script.proofs.message.put_entry.Goals as goal
+
+pub returns-clause-err : goal.returns-clause-err
+returns-clause-err c =
+    keeps_more _ _ _ _ _ c.in_ok-put_named.ensures.ok
+    (keeps_more _ _ _ _ _ c.in_ok-put_numbered.ensures.ok (keeps_more _ _ _ _ _ c.in_ok-extend_from_slice.ensures.items c.put_decl.ensures.err))
