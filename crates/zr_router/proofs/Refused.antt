@@ -1,7 +1,8 @@
 -- Where a message is refused, and where nothing refuses it, as the tables see it.
 use Rattle.std.proofs.Common.{◌≡◌, ℕ, ◌==◌, not, ◌&&◌, Bool, true, false, cond, List, [], ◌∷◌, ◌++◌, Option, Some, None, map, option_map, refl, sym, ap, subst, ◌∙◌}
 use Rattle.std.specs.Prelude.{is_some, is_none}
-use Rattle.std.specs.List.{find}
+use Rattle.std.specs.List.{AllByRecursion, find}
+use Rattle.zr_lists.proofs.Each.{All-append}
 use Rattle.std.proofs.lemmas.Bool.{and_from, and_parts}
 use Rattle.std.specs.Option.{option_and_then, option_map_or}
 use Rattle.zr_id.specs.declared.link.LinkNo.{LinkNo}
@@ -21,10 +22,11 @@ use Rattle.zr_wire.specs.Roles.{admits}
 use Rattle.zr_router_queue.specs.declared.link_end.Closing.{Closing}
 use Rattle.zr_router_queue.specs.Tables.{LinkQueue, Tables, new_tables, advanced, replay_from, replay}
 use Rattle.zr_router_queue.specs.Ends.{EndState, IsReplay}
+use Rattle.zr_router_queue.specs.Held.{AreSpelled, ComesSpelled}
 use Rattle.zr_router.specs.Before.{message_refusal, open_refusal}
 use Rattle.zr_router.specs.Judged.{is_judged}
 use Rattle.zr_router.specs.Refusals.{IsClosed, RefusesAt, RefusesOn, RefusesMessage, closing_of, denied_or, is_worn, node_refusal, refused_by, refuses_on}
-use Rattle.zr_router.specs.Allowed.{is_allowed, are_allowed_from, are_allowed}
+use Rattle.zr_router.specs.Allowed.{AreAllowed, is_allowed, are_allowed_from}
 use Rattle.zr_access.specs.Rules.{PolicyState, is_open}
 use Rattle.zr_access.specs.Messages.{peer_denial}
 use Rattle.zr_msg.specs.declared.error.NodeError.TheVariants as error
@@ -204,5 +206,6 @@ allowed_snoc policy t (x ∷ h) e a b =
     let first = and_parts (is_allowed policy t.hub.node x.event) (are_allowed_from policy (advanced t x) h) a in
     and_from _ _ first.0 (allowed_snoc policy (advanced t x) h e first.1 b)
 
-pub allowed_more : (policy : PolicyState) (me : List ℕ) (h : List Entry) (e : Entry) → are_allowed policy me h ≡ true → is_allowed policy (replay me h).hub.node e.event ≡ true → are_allowed policy me (h ++ e ∷ []) ≡ true
-allowed_more policy me h e a b = allowed_snoc policy (new_tables me) h e a b
+pub allowed_more : (policy : PolicyState) (me : List ℕ) (h : List Entry) (e : Entry) →
+    AreAllowed policy me h → is_allowed policy (replay me h).hub.node e.event ≡ true → ComesSpelled e.event → AreAllowed policy me (h ++ e ∷ [])
+allowed_more policy me h e a b spelled = (allowed_snoc policy (new_tables me) h e a.0 b, All-append (λ x. ComesSpelled x.event) h (e ∷ []) a.1 (spelled, tt))

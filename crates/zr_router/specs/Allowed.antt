@@ -1,5 +1,5 @@
--- Each message in a history is one that the peer of its link may send.
-use Rattle.std.specs.Prelude.{ℕ, ◌&&◌, Bool, true, false, List, [], ◌∷◌, is_none}
+-- Each message in a history has a spelling, and is one that the peer of its link may send.
+use Rattle.std.specs.Prelude.{◌≡◌, ℕ, ◌&&◌, Bool, true, false, List, [], ◌∷◌, is_none}
 use Rattle.std.specs.Option.{option_map_or}
 use Rattle.zr_access.specs.Rules.{PolicyState}
 use Rattle.zr_access.specs.Messages.{peer_denial}
@@ -10,6 +10,7 @@ use Rattle.zr_node_spec.specs.Tables.{link_at}
 use Rattle.zr_node_spec.specs.State.{NodeState}
 use Rattle.zr_wire.specs.Roles.{admits}
 use Rattle.zr_port.specs.declared.entry.Entry.{Entry}
+use Rattle.zr_router_queue.specs.Held.{AreSpelled}
 use Rattle.zr_router_queue.specs.Tables.{Tables, new_tables, advanced}
 
 -- the link is up, a peer of its role sends such messages, and the rules don't deny this one to the peer
@@ -24,3 +25,6 @@ are_allowed_from policy t (e ∷ es) = is_allowed policy t.hub.node e.event && a
 
 abbrev pub are_allowed : PolicyState → List ℕ → List Entry → Bool
 are_allowed policy me h = are_allowed_from policy (new_tables me) h
+
+abbrev pub AreAllowed : PolicyState → List ℕ → List Entry → Type 0
+AreAllowed policy me h = (are_allowed policy me h ≡ true) × AreSpelled h

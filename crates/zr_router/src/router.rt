@@ -8,7 +8,7 @@ ghost use Rattle.zr_msg.specs.declared.msg.Msg.{Msg};
 ghost use Rattle.zr_port.specs.Coming.{ComesUpTo, StopsAt, sight};
 ghost use Rattle.zr_router_queue.specs.History.{is_legal};
 ghost use Rattle.zr_wire.specs.Writing.{IsSpelled};
-ghost use Rattle.zr_router.specs.Allowed.{are_allowed};
+ghost use Rattle.zr_router.specs.Allowed.{AreAllowed};
 ghost use Rattle.zr_router.specs.Refusals.{RefusesMessage, most_sessions};
 
 use crate::admit::MOST_SESSIONS;
@@ -169,7 +169,7 @@ impl<B: Naming, R: Wait + Drop> Router<B, R> {
         requires some { 0 < into_iter_len rest.old }
         ensures same { IsSamePass pass.old pass.new }
         ensures legal { is_legal B.me (seen pass.new) ≡ true }
-        ensures allowed { are_allowed B.policy B.me (seen pass.new) ≡ true }
+        ensures allowed { AreAllowed B.policy B.me (seen pass.new) }
         ensures delivered { OnOk result (ComesUpTo link (λ h m e. RefusesMessage B.policy B.me h link m e) (into_iter_items rest.old) (into_iter_items rest.new) (sight pass.old) (sight pass.new)) }
         ensures left { OnOk result (AllByRecursion IsSpelled (into_iter_items rest.new) × (into_iter_len rest.new ≡ length (into_iter_items rest.new))) }
         ensures fewer { OnOk result (into_iter_len rest.new < into_iter_len rest.old) }
@@ -205,7 +205,7 @@ impl<B: Naming, R: Wait + Drop> Router<B, R> {
         requires some { 0 < into_iter_len rest.old }
         ensures same { IsSamePass pass.old pass.new }
         ensures legal { is_legal B.me (seen pass.new) ≡ true }
-        ensures allowed { are_allowed B.policy B.me (seen pass.new) ≡ true }
+        ensures allowed { AreAllowed B.policy B.me (seen pass.new) }
         ensures delivered { OnOk result (ComesUpTo link (λ h m e. RefusesMessage B.policy B.me h link m e) (into_iter_items rest.old) (into_iter_items rest.new) (sight pass.old) (sight pass.new)) }
         ensures left { OnOk result (AllByRecursion IsSpelled (into_iter_items rest.new) × (into_iter_len rest.new ≡ length (into_iter_items rest.new))) }
         ensures fewer { OnOk result (into_iter_len rest.new < into_iter_len rest.old) }
@@ -247,7 +247,7 @@ impl<B: Naming, R: Wait + Drop> Port for Router<B, R> {
     ghost use Rattle.std.specs.Prelude.{◌≡◌, true};
     ghost use Rattle.zr_router_queue.specs.History as history;
     ghost use Rattle.zr_router_queue.specs.Tables as tables;
-    ghost use Rattle.zr_router.specs.Allowed.{are_allowed};
+    ghost use Rattle.zr_router.specs.Allowed.{AreAllowed};
     ghost use Rattle.zr_router.specs.Refusals.{RefusesDown, RefusesMessage, RefusesUp};
 
     type Note = Queued;
@@ -256,7 +256,7 @@ impl<B: Naming, R: Wait + Drop> Port for Router<B, R> {
 
     ghost policy = { λ _. B.policy };
 
-    ghost is_legal = { λ _ h. (history.is_legal B.me h ≡ true) × (are_allowed B.policy B.me h ≡ true) };
+    ghost is_legal = { λ _ h. (history.is_legal B.me h ≡ true) × AreAllowed B.policy B.me h };
 
     ghost is_up = { λ _ h link. tables.is_up B.me h link };
 

@@ -22,14 +22,14 @@ ghost use Rattle.zr_wire.specs.Writing.{IsSpelled};
 ghost use Rattle.zr_router_queue.specs.Ends.{EndState, GoesByRings, IsReplay, new_end, taker_ring};
 ghost use Rattle.zr_router_queue.specs.History.{is_legal};
 ghost use Rattle.zr_router_queue.specs.Tables.{is_up, new_queue, replay};
-ghost use Rattle.zr_router.specs.Allowed.{are_allowed, is_allowed};
+ghost use Rattle.zr_router.specs.Allowed.{AreAllowed, is_allowed};
 ghost use Rattle.zr_router.specs.Failures.{HasFailed};
 ghost use Rattle.zr_router.specs.Former.{brings_former, was_used};
 ghost use Rattle.zr_router.specs.Glance.{glance};
 ghost use Rattle.zr_router.specs.Handled.{IsHandled};
 ghost use Rattle.zr_router.specs.Ended.{HasEnded};
-ghost use Rattle.zr_router.specs.Replayed.{IsReplay-prop, HoldsSpelled-prop};
-ghost use Rattle.zr_router_queue.specs.Held.{HoldsSpelled};
+ghost use Rattle.zr_router.specs.Replayed.{AreAllowed-prop, HoldsSpelled-prop, IsReplay-prop};
+ghost use Rattle.zr_router_queue.specs.Held.{ComesSpelled, HoldsSpelled};
 ghost use Rattle.zr_frame_pack.specs.Writable.{IsWritable};
 ghost use Rattle.zr_router.specs.Judged.{is_judged};
 ghost use Rattle.zr_router.specs.Runs.{IsStep, RunsUpTo};
@@ -97,7 +97,7 @@ pub struct Tables<B: Naming> {
     ghost own: { me ≡ B.me },
     ghost ruled: { policy ≡ B.policy },
     ghost legal: { is_legal B.me (list_of kept) ≡ true },
-    ghost allowed: { are_allowed B.policy B.me (list_of kept) ≡ true },
+    ghost allowed: { AreAllowed B.policy B.me (list_of kept) } by { AreAllowed-prop B.policy B.me (list_of kept) },
     ghost used: { used_before ≡ was_used B.me (list_of kept) },
     ghost replayed: { is_spent ≡ false → IsReplay B.me (list_of kept) hub ends.items } by { IsReplay-prop is_spent B.me (list_of kept) hub ends.items },
     ghost spelled: { is_spent ≡ false → HoldsSpelled hub.node.held } by { HoldsSpelled-prop is_spent hub.node.held },
@@ -195,7 +195,7 @@ impl<B: Naming> Tables<B> {
         ensures prefix { IsPrefix (seen pass.old) (entries self.old) }
         ensures seen { seen pass.new ≡ entries self.new }
         ensures legal { is_legal B.me (entries self.new) ≡ true }
-        ensures allowed { are_allowed B.policy B.me (entries self.new) ≡ true }
+        ensures allowed { AreAllowed B.policy B.me (entries self.new) }
         ensures added { IfOk result (λ _. Adds pass.old pass.new (λ before e. (before ≡ entries self.old) × IsEntryOf (event.From link msg) None None e × IsAdmitted (λ r. RefusesMessage B.policy B.me before link msg r))) }
         ensures rings { IfOk result (λ _. Adds pass.old pass.new (λ before e. (before ≡ entries self.old) × GoesByRings B.me before e (open_links self.old) (open_links self.new))) }
         ensures refused { IfErr result (λ r. r ≢ DeliverError.NoMemory → RefusesMessage B.policy B.me (entries self.old) link msg r) }
@@ -265,7 +265,7 @@ impl<B: Naming> Tables<B> {
         ensures prefix { IsPrefix (seen pass.old) (entries self.old) }
         ensures seen { seen pass.new ≡ entries self.new }
         ensures legal { is_legal B.me (seen pass.new) ≡ true }
-        ensures allowed { are_allowed B.policy B.me (seen pass.new) ≡ true }
+        ensures allowed { AreAllowed B.policy B.me (seen pass.new) }
         ensures own { (own : List Entry) × (entries self.new ≡ entries self.old ++ own) × (mine pass.new ≡ mine pass.old ++ own) }
         ensures run { OnOk result (RunsUpTo B.policy B.me link (into_iter_items messages.old) (into_iter_items messages.new) (entries self.old) (open_links self.old) (entries self.new) (open_links self.new)) }
         ensures run_so_far { IfErr result (λ r. r ≢ DeliverError.NoMemory → (msg : Msg) × RunsUpTo B.policy B.me link (into_iter_items messages.old) (msg ∷ into_iter_items messages.new) (entries self.old) (open_links self.old) (entries self.new) (open_links self.new)) }
@@ -307,7 +307,7 @@ impl<B: Naming> Tables<B> {
         ensures prefix { IsPrefix (seen pass.old) (entries self.old) }
         ensures seen { seen pass.new ≡ entries self.new }
         ensures legal { is_legal B.me (entries self.new) ≡ true }
-        ensures allowed { are_allowed B.policy B.me (entries self.new) ≡ true }
+        ensures allowed { AreAllowed B.policy B.me (entries self.new) }
         ensures came { OnOk result ((c : Came) × (message_of c ≡ msg) × IsStep B.policy B.me link c (entries self.old) (open_links self.old) (entries self.new) (open_links self.new) × Makes link (λ h m x. RefusesMessage B.policy B.me h link m x) c (sight pass.old) (sight pass.new)) }
         ensures own { (own : List Entry) × (entries self.new ≡ entries self.old ++ own) × (mine pass.new ≡ mine pass.old ++ own) }
         ensures stops { IfErr result (λ r. is_passed r ≡ false) }
@@ -465,7 +465,7 @@ impl<B: Naming> Tables<B> {
         ensures prefix { IsPrefix (seen pass.old) (entries self.old) }
         ensures seen { seen pass.new ≡ entries self.new }
         ensures legal { is_legal B.me (entries self.new) ≡ true }
-        ensures allowed { are_allowed B.policy B.me (entries self.new) ≡ true }
+        ensures allowed { AreAllowed B.policy B.me (entries self.new) }
         ensures added { IfOk result (λ r. Adds pass.old pass.new (λ before e. (before ≡ entries self.old) × IsEntryOf (event.Up r.0 peer) (Some outbox) None e × (IsLeastFree (λ l. is_up B.me before l) r.0 × IsAdmitted (λ e. RefusesUp B.me before peer e)))) }
         ensures rings { IfOk result (λ r. Adds pass.old pass.new (λ before e. (before ≡ entries self.old) × GoesByRings B.me before e (open_links self.old ++ new_end (new_queue r.0 peer.role outbox) (taker_ring r.1) ∷ []) (open_links self.new))) }
         ensures link { IfOk result (λ r. is_up B.me (entries self.new) r.0 ≡ true) }
@@ -537,7 +537,7 @@ impl<B: Naming> Tables<B> {
         ensures prefix { IsPrefix (seen pass.old) (entries self.old) }
         ensures seen { seen pass.new ≡ entries self.new }
         ensures legal { is_legal B.me (entries self.new) ≡ true }
-        ensures allowed { are_allowed B.policy B.me (entries self.new) ≡ true }
+        ensures allowed { AreAllowed B.policy B.me (entries self.new) }
         ensures added { IfOk result (λ _. Adds pass.old pass.new (λ before e. (before ≡ entries self.old) × IsEntryOf (event.Down link) None reason e × IsAdmitted (λ e. RefusesDown B.me before link e))) }
         ensures rings { IfOk result (λ _. Adds pass.old pass.new (λ before e. (before ≡ entries self.old) × GoesByRings B.me before e (filter (λ x. not (x.queue.link.0 == link.0)) (open_links self.old)) (open_links self.new))) }
         ensures ended { IfOk result (λ giver. HasEnded (open_links self.old) link reason giver) }
@@ -617,7 +617,7 @@ impl<B: Naming> Tables<B> {
         ensures prefix { IsPrefix (seen pass.old) (seen pass.new) }
         ensures seen { seen pass.new ≡ entries self.new }
         ensures legal { is_legal B.me (seen pass.new) ≡ true }
-        ensures allowed { are_allowed B.policy B.me (seen pass.new) ≡ true }
+        ensures allowed { AreAllowed B.policy B.me (seen pass.new) }
         ensures unchanged { (entries self.new ≡ entries self.old) × (is_spent self.new ≡ is_spent self.old) × (open_links self.new ≡ open_links self.old) }
         ensures glance { IfOk result (λ g. g ≡ glance (replay B.me (seen pass.new)).hub.node) }
     {
@@ -635,7 +635,7 @@ impl<B: Naming> Tables<B> {
         ensures prefix { IsPrefix (seen pass.old) (seen pass.new) }
         ensures seen { seen pass.new ≡ entries self.new }
         ensures legal { is_legal B.me (seen pass.new) ≡ true }
-        ensures allowed { are_allowed B.policy B.me (seen pass.new) ≡ true }
+        ensures allowed { AreAllowed B.policy B.me (seen pass.new) }
         ensures unchanged { (entries self.new ≡ entries self.old) × (is_spent self.new ≡ is_spent self.old) × (open_links self.new ≡ open_links self.old) }
         ensures told { result ≡ was_used B.me (seen pass.new) }
     {
@@ -722,6 +722,7 @@ impl<B: Naming> Tables<B> {
         requires pass { pass_name pass.old ≡ B.history }
         requires spent { self.old.is_spent ≡ true }
         requires allowed { is_allowed B.policy (replay B.me (list_of self.old.kept)).hub.node arrival.event ≡ true }
+        requires spelled { ComesSpelled arrival.event }
         requires former { arrival.is_former ≡ brings_former (replay B.me (list_of self.old.kept)).hub.node arrival.event }
         requires handled { IsHandled B.me (list_of self.old.kept) self.old.hub self.old.ends.items arrival.event arrival.outbox arrival.reason sent.now }
         ensures same { IsSamePass pass.old pass.new }

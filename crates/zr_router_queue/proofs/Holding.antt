@@ -22,13 +22,7 @@ use Rattle.zr_node_spec.specs.State.{NodeState, tables}
 use Rattle.zr_node_spec.specs.Table.{after}
 use Rattle.zr_node_spec.specs.Tables.{leads_to_client}
 use Rattle.zr_wire.specs.Writing.{IsSpelled}
-use Rattle.zr_router_queue.specs.Held.{HoldsSpelled, IsReplySpelled}
-
--- the message that came, if one has, has a spelling
-abbrev pub ComesSpelled : Event → Type 0
-ComesSpelled (Up link peer) = Unit {0}
-ComesSpelled (Down link) = Unit {0}
-ComesSpelled (From link msg) = IsSpelled msg
+use Rattle.zr_router_queue.specs.Held.{ComesSpelled, HoldsSpelled, IsReplySpelled}
 
 abbrev AreSpelled : List Parts → Type 0
 AreSpelled replies = AllByRecursion (λ c. IsReplySpelled c) replies

@@ -51,8 +51,8 @@ use Rattle.zr_told_spec.specs.declared.place.Class.TheVariants.{Subscriber, Quer
 use Rattle.zr_told_spec.specs.declared.place.Place.{Place}
 use Rattle.zr_wire.specs.Writing.{IsSpelled}
 use Rattle.zr_frame_pack.specs.Writable.{IsWritable}
-use Rattle.zr_router_queue.specs.Held.{HoldsSpelled, IsReplySpelled}
-use Rattle.zr_router_queue.proofs.Holding.{ComesSpelled, found_spelled}
+use Rattle.zr_router_queue.specs.Held.{ComesSpelled, HoldsSpelled, IsReplySpelled}
+use Rattle.zr_router_queue.proofs.Holding.{found_spelled}
 use Rattle.zr_router_queue.proofs.Kept.{IsKept, kept_after, neither}
 use Rattle.zr_router_queue.proofs.Logs.{IsLight, logs_light}
 

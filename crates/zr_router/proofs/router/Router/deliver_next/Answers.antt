@@ -4,7 +4,7 @@ use Rattle.std.specs.Vec.Iter.{into_iter_items}
 use Rattle.zr_hist.specs.Words.{list_of}
 use Rattle.zr_port.specs.Coming.{sight}
 use Rattle.zr_router_queue.specs.History.{is_legal}
-use Rattle.zr_router.specs.Allowed.{are_allowed}
+use Rattle.zr_router.specs.Allowed.{AreAllowed}
 use Rattle.zr_router.specs.Refusals.{RefusesMessage}
 use Rattle.zr_router.specs.Runs.{IsStep}
 use Rattle.zr_router.proofs.Next.{next_comes, next_stops}
@@ -18,7 +18,7 @@ returns-clause-legal g c =
 pub returns-clause-allowed : goal.returns-clause-allowed
 returns-clause-allowed g c =
     let done = c.deliver_next-result.ensures in
-    subst (λ h. are_allowed g.B.Naming.policy g.B.Naming.me h ≡ true) (sym done.seen) done.allowed
+    subst (λ h. AreAllowed g.B.Naming.policy g.B.Naming.me h) (sym done.seen) done.allowed
 
 pub returns-clause-delivered : goal.returns-clause-delivered
 returns-clause-delivered g c =

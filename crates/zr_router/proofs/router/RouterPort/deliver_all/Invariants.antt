@@ -5,7 +5,7 @@ use Rattle.zr_hist.specs.Words.{IsSamePass, seen}
 use Rattle.zr_port.specs.Coming.{ComesUpTo, sight}
 use Rattle.zr_router_queue.specs.History.{is_legal}
 use Rattle.zr_wire.specs.Writing.{IsSpelled}
-use Rattle.zr_router.specs.Allowed.{are_allowed}
+use Rattle.zr_router.specs.Allowed.{AreAllowed}
 use Rattle.zr_router.specs.Refusals.{RefusesMessage}
 use Rattle.zr_router.proofs.router.RouterPort.deliver_all.Given as goal
 
@@ -15,7 +15,7 @@ invariant-loop-link g l = record {
   delivered : ComesUpTo l.link (λ h m e. RefusesMessage g.B.Naming.policy g.B.Naming.me h l.link m e) l.fn.messages.items (into_iter_items l.rest) (sight l.fn.pass) (sight l.pass);
   spelled : AllByRecursion IsSpelled (into_iter_items l.rest);
   counted : into_iter_len l.rest ≡ length (into_iter_items l.rest);
-  legal : (into_iter_items l.rest ≡ l.fn.messages.items) ⊎ ((is_legal g.B.Naming.me (seen l.pass) ≡ true) × (are_allowed g.B.Naming.policy g.B.Naming.me (seen l.pass) ≡ true));
+  legal : (into_iter_items l.rest ≡ l.fn.messages.items) ⊎ ((is_legal g.B.Naming.me (seen l.pass) ≡ true) × AreAllowed g.B.Naming.policy g.B.Naming.me (seen l.pass));
 }
 
 abbrev pub decreases-loop-link : goal.decreases-loop-link

@@ -83,6 +83,9 @@ enter-requires-clause-former g c =
     c.tells_former-is_former.ensures ∙ ap (λ b. tells_former b c.args.msg) (c.base.ensures ∙ ap (λ h. h.node.base) r.hub_is)
     ∙ ap (λ h. tells_former (replay me h).hub.node.base c.args.msg) (sym c.handle.ensures.kept)
 
+pub enter-requires-clause-spelled : goal.enter-requires-clause-spelled
+enter-requires-clause-spelled g c = c.requires.spelled
+
 pub enter-requires-clause-allowed : goal.enter-requires-clause-allowed
 enter-requires-clause-allowed g c =
     let t = c.args.self.now in

@@ -8,7 +8,7 @@ use Rattle.zr_port.specs.Coming.{sight}
 use Rattle.zr_port.proofs.Coming.{comes_begun, comes_one, comes_still}
 use Rattle.zr_router_queue.specs.History.{is_legal}
 use Rattle.zr_wire.specs.Writing.{IsSpelled}
-use Rattle.zr_router.specs.Allowed.{are_allowed}
+use Rattle.zr_router.specs.Allowed.{AreAllowed}
 use Rattle.zr_router.specs.Refusals.{RefusesMessage}
 use Rattle.zr_router.proofs.Delivered.{moved_of, none_next, not_spent, owns_then, owns_none, runs_begun, runs_more, runs_still, spent_neither, spent_or, stands_fewer, stands_prefix}
 use Rattle.zr_router.proofs.tables.Tables.deliver_some.Goals as goal
@@ -29,7 +29,7 @@ loop-init g c = record {
 -- ---- a message was refused
 
 pub returns-in-Err-clause-prefix : goal.returns-in-Err-clause-prefix
-returns-in-Err-clause-prefix g c = stands_prefix c.loop.counter _ _ _ _ _ _ (λ h. (is_legal g.B.Naming.me h ≡ true) × (are_allowed g.B.Naming.policy g.B.Naming.me h ≡ true)) c.loop.self.is_spent c.loop.invariant.stands c.in-Err.ensures.prefix
+returns-in-Err-clause-prefix g c = stands_prefix c.loop.counter _ _ _ _ _ _ (λ h. (is_legal g.B.Naming.me h ≡ true) × AreAllowed g.B.Naming.policy g.B.Naming.me h) c.loop.self.is_spent c.loop.invariant.stands c.in-Err.ensures.prefix
 
 pub returns-in-Err-clause-own : goal.returns-in-Err-clause-own
 returns-in-Err-clause-own g c =
@@ -80,7 +80,7 @@ returns-in-Err-clause-stopped g c =
 
 pub returns-then-self-clause-prefix : goal.returns-then-self-clause-prefix
 returns-then-self-clause-prefix g c =
-    stands_prefix c.loop.counter _ _ _ _ _ _ (λ h. (is_legal g.B.Naming.me h ≡ true) × (are_allowed g.B.Naming.policy g.B.Naming.me h ≡ true)) c.loop.self.is_spent c.loop.invariant.stands c.in_default-deliver_next.ensures.prefix
+    stands_prefix c.loop.counter _ _ _ _ _ _ (λ h. (is_legal g.B.Naming.me h ≡ true) × AreAllowed g.B.Naming.policy g.B.Naming.me h) c.loop.self.is_spent c.loop.invariant.stands c.in_default-deliver_next.ensures.prefix
 
 pub returns-then-self-clause-own : goal.returns-then-self-clause-own
 returns-then-self-clause-own g c = owns_then _ _ _ _ _ _ c.loop.invariant.own c.in_default-deliver_next.ensures.own
@@ -95,7 +95,7 @@ returns-then-self-clause-stays g c = λ s. c.in_default-deliver_next.ensures.sta
 
 pub returns-then-self-clause-fewer : goal.returns-then-self-clause-fewer
 returns-then-self-clause-fewer g c =
-    stands_fewer c.loop.counter _ _ _ _ _ _ _ (λ h. (is_legal g.B.Naming.me h ≡ true) × (are_allowed g.B.Naming.policy g.B.Naming.me h ≡ true)) c.loop.self.is_spent c.loop.invariant.stands c.in-Some.ensures.len
+    stands_fewer c.loop.counter _ _ _ _ _ _ _ (λ h. (is_legal g.B.Naming.me h ≡ true) × AreAllowed g.B.Naming.policy g.B.Naming.me h) c.loop.self.is_spent c.loop.invariant.stands c.in-Some.ensures.len
 
 pub returns-then-self-clause-delivered : goal.returns-then-self-clause-delivered
 returns-then-self-clause-delivered g c =
@@ -107,39 +107,39 @@ returns-then-self-clause-delivered g c =
 
 pub returns-in_default-clause-prefix : goal.returns-in_default-clause-prefix
 returns-in_default-clause-prefix g c =
-    let m = moved_of c.loop.counter _ _ _ _ _ _ (λ h. (is_legal g.B.Naming.me h ≡ true) × (are_allowed g.B.Naming.policy g.B.Naming.me h ≡ true)) c.loop.self.is_spent c.loop.invariant.stands (λ x. none_next _ _ c.requires.some c.in_default.ensures.variant x.1) in m.prefix
+    let m = moved_of c.loop.counter _ _ _ _ _ _ (λ h. (is_legal g.B.Naming.me h ≡ true) × AreAllowed g.B.Naming.policy g.B.Naming.me h) c.loop.self.is_spent c.loop.invariant.stands (λ x. none_next _ _ c.requires.some c.in_default.ensures.variant x.1) in m.prefix
 
 pub returns-in_default-clause-seen : goal.returns-in_default-clause-seen
 returns-in_default-clause-seen g c =
-    let m = moved_of c.loop.counter _ _ _ _ _ _ (λ h. (is_legal g.B.Naming.me h ≡ true) × (are_allowed g.B.Naming.policy g.B.Naming.me h ≡ true)) c.loop.self.is_spent c.loop.invariant.stands (λ x. none_next _ _ c.requires.some c.in_default.ensures.variant x.1) in m.seen_is
+    let m = moved_of c.loop.counter _ _ _ _ _ _ (λ h. (is_legal g.B.Naming.me h ≡ true) × AreAllowed g.B.Naming.policy g.B.Naming.me h) c.loop.self.is_spent c.loop.invariant.stands (λ x. none_next _ _ c.requires.some c.in_default.ensures.variant x.1) in m.seen_is
 
 pub returns-in_default-clause-allowed : goal.returns-in_default-clause-allowed
 returns-in_default-clause-allowed g c =
-    let m = moved_of c.loop.counter _ _ _ _ _ _ (λ h. (is_legal g.B.Naming.me h ≡ true) × (are_allowed g.B.Naming.policy g.B.Naming.me h ≡ true)) c.loop.self.is_spent c.loop.invariant.stands (λ x. none_next _ _ c.requires.some c.in_default.ensures.variant x.1) in m.legal.1
+    let m = moved_of c.loop.counter _ _ _ _ _ _ (λ h. (is_legal g.B.Naming.me h ≡ true) × AreAllowed g.B.Naming.policy g.B.Naming.me h) c.loop.self.is_spent c.loop.invariant.stands (λ x. none_next _ _ c.requires.some c.in_default.ensures.variant x.1) in m.legal.1
 
 pub returns-in_default-clause-legal : goal.returns-in_default-clause-legal
 returns-in_default-clause-legal g c =
-    let m = moved_of c.loop.counter _ _ _ _ _ _ (λ h. (is_legal g.B.Naming.me h ≡ true) × (are_allowed g.B.Naming.policy g.B.Naming.me h ≡ true)) c.loop.self.is_spent c.loop.invariant.stands (λ x. none_next _ _ c.requires.some c.in_default.ensures.variant x.1) in m.legal.0
+    let m = moved_of c.loop.counter _ _ _ _ _ _ (λ h. (is_legal g.B.Naming.me h ≡ true) × AreAllowed g.B.Naming.policy g.B.Naming.me h) c.loop.self.is_spent c.loop.invariant.stands (λ x. none_next _ _ c.requires.some c.in_default.ensures.variant x.1) in m.legal.0
 
 pub returns-clause-prefix : goal.returns-clause-prefix
 returns-clause-prefix g c =
-    let m = moved_of c.loop.counter _ _ _ _ _ _ (λ h. (is_legal g.B.Naming.me h ≡ true) × (are_allowed g.B.Naming.policy g.B.Naming.me h ≡ true)) c.loop.self.is_spent c.loop.invariant.stands (λ x. absurd (omega (arith, c.loop-test.false, x.0))) in m.prefix
+    let m = moved_of c.loop.counter _ _ _ _ _ _ (λ h. (is_legal g.B.Naming.me h ≡ true) × AreAllowed g.B.Naming.policy g.B.Naming.me h) c.loop.self.is_spent c.loop.invariant.stands (λ x. absurd (omega (arith, c.loop-test.false, x.0))) in m.prefix
 
 pub returns-clause-seen : goal.returns-clause-seen
 returns-clause-seen g c =
-    let m = moved_of c.loop.counter _ _ _ _ _ _ (λ h. (is_legal g.B.Naming.me h ≡ true) × (are_allowed g.B.Naming.policy g.B.Naming.me h ≡ true)) c.loop.self.is_spent c.loop.invariant.stands (λ x. absurd (omega (arith, c.loop-test.false, x.0))) in m.seen_is
+    let m = moved_of c.loop.counter _ _ _ _ _ _ (λ h. (is_legal g.B.Naming.me h ≡ true) × AreAllowed g.B.Naming.policy g.B.Naming.me h) c.loop.self.is_spent c.loop.invariant.stands (λ x. absurd (omega (arith, c.loop-test.false, x.0))) in m.seen_is
 
 pub returns-clause-allowed : goal.returns-clause-allowed
 returns-clause-allowed g c =
-    let m = moved_of c.loop.counter _ _ _ _ _ _ (λ h. (is_legal g.B.Naming.me h ≡ true) × (are_allowed g.B.Naming.policy g.B.Naming.me h ≡ true)) c.loop.self.is_spent c.loop.invariant.stands (λ x. absurd (omega (arith, c.loop-test.false, x.0))) in m.legal.1
+    let m = moved_of c.loop.counter _ _ _ _ _ _ (λ h. (is_legal g.B.Naming.me h ≡ true) × AreAllowed g.B.Naming.policy g.B.Naming.me h) c.loop.self.is_spent c.loop.invariant.stands (λ x. absurd (omega (arith, c.loop-test.false, x.0))) in m.legal.1
 
 pub returns-clause-legal : goal.returns-clause-legal
 returns-clause-legal g c =
-    let m = moved_of c.loop.counter _ _ _ _ _ _ (λ h. (is_legal g.B.Naming.me h ≡ true) × (are_allowed g.B.Naming.policy g.B.Naming.me h ≡ true)) c.loop.self.is_spent c.loop.invariant.stands (λ x. absurd (omega (arith, c.loop-test.false, x.0))) in m.legal.0
+    let m = moved_of c.loop.counter _ _ _ _ _ _ (λ h. (is_legal g.B.Naming.me h ≡ true) × AreAllowed g.B.Naming.policy g.B.Naming.me h) c.loop.self.is_spent c.loop.invariant.stands (λ x. absurd (omega (arith, c.loop-test.false, x.0))) in m.legal.0
 
 pub returns-in_default-clause-spent : goal.returns-in_default-clause-spent
 returns-in_default-clause-spent g c =
-    let m = moved_of c.loop.counter _ _ _ _ _ _ (λ h. (is_legal g.B.Naming.me h ≡ true) × (are_allowed g.B.Naming.policy g.B.Naming.me h ≡ true)) c.loop.self.is_spent c.loop.invariant.stands (λ x. none_next _ _ c.requires.some c.in_default.ensures.variant x.1) in spent_neither _ _ _ _ refl m.unspent
+    let m = moved_of c.loop.counter _ _ _ _ _ _ (λ h. (is_legal g.B.Naming.me h ≡ true) × AreAllowed g.B.Naming.policy g.B.Naming.me h) c.loop.self.is_spent c.loop.invariant.stands (λ x. none_next _ _ c.requires.some c.in_default.ensures.variant x.1) in spent_neither _ _ _ _ refl m.unspent
 
 pub returns-in_default-clause-own : goal.returns-in_default-clause-own
 returns-in_default-clause-own g c = c.loop.invariant.own
@@ -149,7 +149,7 @@ returns-in_default-clause-stays g c = c.loop.invariant.stays
 
 pub returns-clause-spent : goal.returns-clause-spent
 returns-clause-spent g c =
-    let m = moved_of c.loop.counter _ _ _ _ _ _ (λ h. (is_legal g.B.Naming.me h ≡ true) × (are_allowed g.B.Naming.policy g.B.Naming.me h ≡ true)) c.loop.self.is_spent c.loop.invariant.stands (λ x. absurd (omega (arith, c.loop-test.false, x.0))) in spent_neither _ _ _ _ refl m.unspent
+    let m = moved_of c.loop.counter _ _ _ _ _ _ (λ h. (is_legal g.B.Naming.me h ≡ true) × AreAllowed g.B.Naming.policy g.B.Naming.me h) c.loop.self.is_spent c.loop.invariant.stands (λ x. absurd (omega (arith, c.loop-test.false, x.0))) in spent_neither _ _ _ _ refl m.unspent
 
 pub returns-clause-own : goal.returns-clause-own
 returns-clause-own g c = c.loop.invariant.own
@@ -159,11 +159,11 @@ returns-clause-stays g c = c.loop.invariant.stays
 
 pub returns-in_default-clause-fewer : goal.returns-in_default-clause-fewer
 returns-in_default-clause-fewer g c =
-    let m = moved_of c.loop.counter _ _ _ _ _ _ (λ h. (is_legal g.B.Naming.me h ≡ true) × (are_allowed g.B.Naming.policy g.B.Naming.me h ≡ true)) c.loop.self.is_spent c.loop.invariant.stands (λ x. none_next _ _ c.requires.some c.in_default.ensures.variant x.1) in omega (arith, m.fewer, c.in_default.ensures.len)
+    let m = moved_of c.loop.counter _ _ _ _ _ _ (λ h. (is_legal g.B.Naming.me h ≡ true) × AreAllowed g.B.Naming.policy g.B.Naming.me h) c.loop.self.is_spent c.loop.invariant.stands (λ x. none_next _ _ c.requires.some c.in_default.ensures.variant x.1) in omega (arith, m.fewer, c.in_default.ensures.len)
 
 pub returns-clause-fewer : goal.returns-clause-fewer
 returns-clause-fewer g c =
-    let m = moved_of c.loop.counter _ _ _ _ _ _ (λ h. (is_legal g.B.Naming.me h ≡ true) × (are_allowed g.B.Naming.policy g.B.Naming.me h ≡ true)) c.loop.self.is_spent c.loop.invariant.stands (λ x. absurd (omega (arith, c.loop-test.false, x.0))) in m.fewer
+    let m = moved_of c.loop.counter _ _ _ _ _ _ (λ h. (is_legal g.B.Naming.me h ≡ true) × AreAllowed g.B.Naming.policy g.B.Naming.me h) c.loop.self.is_spent c.loop.invariant.stands (λ x. absurd (omega (arith, c.loop-test.false, x.0))) in m.fewer
 
 pub returns-in_default-clause-run : goal.returns-in_default-clause-run
 returns-in_default-clause-run g c = runs_still g.B.Naming.policy g.B.Naming.me c.args.link _ _ _ _ _ _ _ _ _ c.loop.invariant.run c.in_default.ensures.items refl refl
@@ -189,9 +189,9 @@ loop-preserved g c =
       stays = λ s. done.stays (inv.stays s);
       was = λ s. absurd (not_spent _ _ _ _ refl done.spent s);
       stands = inr (record {
-        fewer = stands_fewer c.loop.counter _ _ _ _ _ _ _ (λ h. (is_legal g.B.Naming.me h ≡ true) × (are_allowed g.B.Naming.policy g.B.Naming.me h ≡ true)) c.loop.self.is_spent inv.stands c.in-Some.ensures.len;
-        legal = (subst (λ h. is_legal g.B.Naming.me h ≡ true) (sym done.seen) done.legal, subst (λ h. are_allowed g.B.Naming.policy g.B.Naming.me h ≡ true) (sym done.seen) done.allowed);
-        prefix = stands_prefix c.loop.counter _ _ _ _ _ _ (λ h. (is_legal g.B.Naming.me h ≡ true) × (are_allowed g.B.Naming.policy g.B.Naming.me h ≡ true)) c.loop.self.is_spent inv.stands done.prefix;
+        fewer = stands_fewer c.loop.counter _ _ _ _ _ _ _ (λ h. (is_legal g.B.Naming.me h ≡ true) × AreAllowed g.B.Naming.policy g.B.Naming.me h) c.loop.self.is_spent inv.stands c.in-Some.ensures.len;
+        legal = (subst (λ h. is_legal g.B.Naming.me h ≡ true) (sym done.seen) done.legal, subst (λ h. AreAllowed g.B.Naming.policy g.B.Naming.me h) (sym done.seen) done.allowed);
+        prefix = stands_prefix c.loop.counter _ _ _ _ _ _ (λ h. (is_legal g.B.Naming.me h ≡ true) × AreAllowed g.B.Naming.policy g.B.Naming.me h) c.loop.self.is_spent inv.stands done.prefix;
         seen_is = done.seen;
         unspent = not_spent _ _ _ _ refl done.spent;
       });

@@ -5,7 +5,7 @@ use Rattle.zr_hist.specs.Words.{IsSamePass, list_of, mine, seen}
 use Rattle.zr_port.specs.Coming.{ComesUpTo, sight}
 use Rattle.zr_router_queue.specs.History.{is_legal}
 use Rattle.zr_wire.specs.Writing.{IsSpelled}
-use Rattle.zr_router.specs.Allowed.{are_allowed}
+use Rattle.zr_router.specs.Allowed.{AreAllowed}
 use Rattle.zr_router.specs.Refusals.{RefusesMessage}
 use Rattle.zr_router.specs.Runs.{RunsUpTo}
 use Rattle.zr_router.proofs.Delivered.{Owns, Stands}
@@ -21,5 +21,5 @@ invariant-loop g l = record {
   counted : into_iter_len l.messages ≡ length (into_iter_items l.messages);
   stays : l.fn.self.is_spent ≡ true → l.self.is_spent ≡ true;
   was : l.self.is_spent ≡ true → l.fn.self.is_spent ≡ true;
-  stands : Stands l.counter (into_iter_len l.messages) (into_iter_len l.fn.messages) (seen l.pass) (seen l.fn.pass) (list_of l.self.kept) (list_of l.fn.self.kept) (λ h. (is_legal g.B.Naming.me h ≡ true) × (are_allowed g.B.Naming.policy g.B.Naming.me h ≡ true)) l.self.is_spent;
+  stands : Stands l.counter (into_iter_len l.messages) (into_iter_len l.fn.messages) (seen l.pass) (seen l.fn.pass) (list_of l.self.kept) (list_of l.fn.self.kept) (λ h. (is_legal g.B.Naming.me h ≡ true) × AreAllowed g.B.Naming.policy g.B.Naming.me h) l.self.is_spent;
 }

@@ -4,11 +4,12 @@ use Rattle.std.specs.List.{AllZip}
 use Rattle.zr_hist.specs.Words.{list_of}
 use Rattle.zr_node_spec.specs.Event.{on_link}
 use Rattle.zr_router_queue.specs.Ends.{EndState, GoesByRings, IsAsked, IsPlannedFor, IsReplay, MayEnter}
+use Rattle.zr_router_queue.specs.Held.{ComesSpelled}
 use Rattle.zr_router_queue.specs.History.{is_legal}
 use Rattle.zr_router_queue.specs.Tables.{open_queues, queued_by, replay}
 use Rattle.zr_router_queue.proofs.Rings.{goes_by_rings}
 use Rattle.zr_router_queue.proofs.Stepped.{zip_so}
-use Rattle.zr_router.specs.Allowed.{are_allowed, is_allowed}
+use Rattle.zr_router.specs.Allowed.{AreAllowed, is_allowed}
 use Rattle.zr_router.proofs.Refused.{allowed_more}
 use Rattle.zr_router.proofs.Heard.{or_first, or_second, used_more}
 use Rattle.zr_router.proofs.Entered.{entered, may_enter, written_over}
@@ -36,9 +37,10 @@ invariant_of-self-2 g c =
       named = c.enter.ensures.same.0 ∙ t.named;
       own = t.own;
       ruled = t.ruled;
-      allowed = subst (λ z. are_allowed g.B.Naming.policy g.B.Naming.me z ≡ true) (sym c.enter.ensures.list)
+      allowed = subst (λ z. AreAllowed g.B.Naming.policy g.B.Naming.me z) (sym c.enter.ensures.list)
           (allowed_more g.B.Naming.policy g.B.Naming.me (list_of t.kept) c.in_ok-entry.entry t.allowed
-          (subst (λ z. is_allowed g.B.Naming.policy (replay g.B.Naming.me (list_of t.kept)).hub.node z ≡ true) (sym c.in_ok-entry.ensures.entry.event_is) c.requires.allowed));
+          (subst (λ z. is_allowed g.B.Naming.policy (replay g.B.Naming.me (list_of t.kept)).hub.node z ≡ true) (sym c.in_ok-entry.ensures.entry.event_is) c.requires.allowed)
+          (subst (λ z. ComesSpelled z) (sym c.in_ok-entry.ensures.entry.event_is) c.requires.spelled));
       used = either ∙ used_more g.B.Naming.me (list_of t.kept) (list_of c.enter.new.kept) c.args.arrival.event c.in_ok-entry.entry t.used_before c.args.arrival.is_former t.used
           c.requires.former c.in_ok-entry.ensures.entry.event_is c.enter.ensures.list;
       legal = subst (λ m. is_legal m (list_of c.enter.new.kept) ≡ true) t.own c.enter.ensures.legal;
