@@ -9,7 +9,9 @@ number, string = pubsub.number, pubsub.string
 
 GROUPS = 64  # of keys: connections of different ones seldom meet
 UNITS = 120  # of each group, made once
-MOST_STREAMS = 6  # of one connection: few sessions outlast more
+MOST_STREAMS = 16  # of one connection
+MUTATED, GOES_ON = 0.25, 0.3  # of all streams, and of connections behind a mutated stream: few sessions outlast one
+LEASE = 600  # seconds: on a busy machine a connection may be late
 PROBE = 0x0F0F0F00  # the interests that tell how far a router has read
 PROBE_KEY = b"probe"
 LARGEST_NUMBER = (1 << 64) - 1
@@ -23,13 +25,23 @@ NASTY_KEYS = [
 ]
 
 
+class Draw(random.Random):
+    """Draws that take half the time: a little uneven, which doesn't matter here."""
+
+    def choice(self, of):
+        return of[int(self.random() * len(of))]
+
+    def randrange(self, first, end=None):
+        return int(self.random() * first) if end is None else first + int(self.random() * (end - first))
+
+
 class Plan(typing.NamedTuple):
     """What one connection sends: `first` at once; where `second` is there, it is called with the cookie and the modulus for the rest."""
 
     first: bytes
     second: typing.Callable | None
     is_router: bool
-    streams: int
+    mutated: list  # of each stream whether its bytes are mutated
 
 
 def batch(content):
@@ -40,7 +52,7 @@ def zint(rng, value):
     """A number, now and then in a longer spelling than need be."""
     spelled = number(value)
     if len(spelled) < 8 and rng.random() < 0.03:
-        return spelled[:-1] + bytes([spelled[-1] | 0x80]) + b"\x80" * rng.randrange(0, 8 - len(spelled)) + b"\0"
+        return spelled[:-1] + bytes([spelled[-1] | 0x80]) + b"\x80" * rng.randrange(8 - len(spelled)) + b"\0"
     return spelled
 
 
@@ -205,7 +217,7 @@ def other_oam(rng):
 @functools.lru_cache(maxsize=None)
 def client_units(seed, group):
     """Groups of messages that may follow each other in the session of a client."""
-    rng = random.Random(f"{seed} client {group}")
+    rng = Draw(f"{seed} client {group}")
     makers = [
         *[lambda: [push(rng, group)]] * 4,
         *[lambda: declared(rng, group)] * 4,
@@ -378,19 +390,26 @@ def mutate_batches(rng, batches):
     return b"".join(out)
 
 
-def stream(rng, writer, units):
-    """A few units, with no, one or more mutations."""
-    messages = [message for unit in units for message in unit]
-    for _ in range(rng.choice([0, 0, 1, 1, 1, 2])):
+def mutate_messages(rng, messages):
+    for _ in range(rng.choice([1, 1, 1, 2])):
         at = rng.randrange(len(messages))
         if rng.random() < 0.1:
             other = rng.choice(messages)
             messages[at] = messages[at][: rng.randrange(len(messages[at]) + 1)] + other[rng.randrange(len(other) + 1) :]
         else:
             messages[at] = mutated(rng, messages[at])
+
+
+def stream(rng, writer, units, is_mutated):
+    """A few units; where it is mutated either their messages or their batches."""
+    messages = [message for unit in units for message in unit]
+    among_batches = is_mutated and rng.random() < 0.15
+    if is_mutated and not among_batches:
+        mutate_messages(rng, messages)
     batches = writer.batches(messages)
-    writer.skip()
-    return mutate_batches(rng, batches) if batches and rng.random() < 0.12 else b"".join(map(batch, batches))
+    if is_mutated or rng.random() < 0.1:
+        writer.skip()
+    return mutate_batches(rng, batches) if among_batches and batches else b"".join(map(batch, batches))
 
 
 # ---- connections
@@ -406,21 +425,31 @@ def init(rng, ident, is_router):
 
 def opened(rng, cookie, first):
     seconds = rng.choice([0, 0x40])
-    return bytes([pubsub.OPEN | seconds]) + zint(rng, 20 if seconds else 20_000) + number(first) + string(cookie)
+    return bytes([pubsub.OPEN | seconds]) + zint(rng, LEASE if seconds else 1_000 * LEASE) + number(first) + string(cookie)
+
+
+def which_are_mutated(rng):
+    """Of each stream of a connection whether it is: those behind one are seldom read."""
+    out = []
+    while len(out) < MOST_STREAMS:
+        out.append(rng.random() < MUTATED)
+        if out[-1] and rng.random() > GOES_ON:
+            break
+    return out
 
 
 def plan(seed, place, is_router):
-    rng = random.Random(seed << 40 | place << 1 | is_router)
+    rng = Draw(seed << 40 | place << 1 | is_router)
     group = rng.randrange(GROUPS)
     ident = place.to_bytes(6, "big") + b"\x0b" if rng.random() < 0.99 else bytes([1])
     hello = init(rng, ident, is_router)
     if rng.random() < 0.06:
         bad = mutated(rng, hello)
         sent = batch(bad) if rng.random() < 0.8 else mutate_batches(rng, [hello, bytes([pubsub.OPEN, 10, 0, 0])])
-        return Plan(sent, None, is_router, 1)
-    count = rng.randrange(1, MOST_STREAMS + 1)
+        return Plan(sent, None, is_router, [True])
     if not is_router and place < len(SPECIAL):
-        return Plan(batch(hello), functools.partial(special, rng, SPECIAL[place]), is_router, 1)
+        return Plan(batch(hello), functools.partial(special, rng, SPECIAL[place]), is_router, [False])
+    streams = which_are_mutated(rng)
 
     def rest(cookie, modulus):
         first = rng.choice([0, modulus - 1, rng.randrange(modulus)])
@@ -429,16 +458,17 @@ def plan(seed, place, is_router):
         writer = Writer(rng, modulus, first)
         units = router_units(rng, group, ident) if is_router else None
         out = [opening]
-        for i in range(count):
-            k = rng.choice([1, 1, 2, 3])
-            out.append(stream(rng, writer, [next(units) for _ in range(k)] if is_router else rng.choices(client_units(seed, group), k=k)))
+        for i, is_mutated in enumerate(streams):
+            count = rng.choice([1, 1, 2, 3])
+            chosen = [next(units) if is_router else rng.choice(client_units(seed, group)) for _ in range(count)]
+            out.append(stream(rng, writer, chosen, is_mutated))
             if not is_router:
                 out.append(writer.probe(i))
         if rng.random() < 0.4:
             out.append(batch(bytes([0x23, rng.randrange(256)])))
         return b"".join(out)
 
-    return Plan(batch(hello), rest, is_router, count)
+    return Plan(batch(hello), rest, is_router, streams)
 
 
 # ---- streams that reach a limit: one connection each, the first ones of a run
