@@ -1,15 +1,14 @@
-"""Malformed bytes, and what fails outside a router: two tables, which the cases `malformed_bytes` and `failing_outsides` go through.
-
-A write that fails in the thread of a writer ends a TCP stream for both threads, and no accept fails where a listener is sound. So of these
-two rows tests over forms in memory speak: `a_writer_writes_parcels_and_keep_alives`, `each_link_is_a_job_and_a_host_that_fails_ends_it`.
-"""
+"""Malformed bytes, and what fails outside a router: two tables, which the cases `malformed_bytes` and `failing_outsides` go through."""
 import contextlib
+import ctypes
 import os
 import pathlib
 import resource
+import select
 import shutil
 import signal
 import socket
+import stat
 import struct
 import subprocess
 import tempfile
@@ -48,8 +47,11 @@ EXPIRED, INVALID, GENERIC = 5, 2, 0
 CLOSED = bytes([2, 0, pubsub.CLOSE | pubsub.WHOLE_SESSION, GENERIC])
 AS_NOBODY = ["setpriv", "--reuid=65534", "--clear-groups"]  # a user who runs nothing else
 LOW_PORT = 1
-OWN_THREADS, MANY_THREADS = 3, 100  # of a router without links, and more than it needs here
+OWN_THREADS, MANY_THREADS = 4, 100  # of a router without links that has a log, and more than it needs here
 STEP = 13  # bytes from one place of a fault to the next
+PIDFD_GETFD = 438  # the system call that copies a descriptor of another process
+GIVEN_UP = 25  # seconds within which a write fails to a client that takes nothing
+FILLINGS, FILLING = 600, b"." * 60_000  # samples that are more than a ring and the buffers of sockets hold
 SCRIPT = HERE.parent / "examples" / "three_routers.script"
 
 
@@ -117,6 +119,25 @@ def the_first_write():
                 break
         else:
             raise Wrong("no write failed")
+        clients_hear_each_other(router)
+
+
+def a_write_of_the_writer():
+    """The writer ends. The reader has gone on until then, and ends as the stream does, which is shut."""
+    with Router("01", options=["--log"]) as router:
+        stuck, publisher = router.client("0a"), router.client("0b")
+        stuck.subscribe("a")
+        settle(stuck)
+        for _ in range(FILLINGS):
+            publisher.put("a", FILLING)
+        told, end = [], time.monotonic() + GIVEN_UP
+        while len(told) < 2 and time.monotonic() < end:
+            for client in (stuck, publisher):
+                client.keep_alive()
+            while select.select([router.process.stderr], [], [], 1)[0]:
+                told += [line for _, line in [router.logged()] if "end, client 0a" in line]
+        told = [line.split(": ", 1)[1] for line in told]
+        must(told, ["writer end, client 0a: a write failed", "end, client 0a: the peer hung up"], "what is told of the link")
         clients_hear_each_other(router)
 
 
@@ -217,6 +238,29 @@ def the_crew_asked_by_serve():
         clients_hear_each_other(router)
 
 
+def listener_of(router):
+    """A copy of the socket at which it listens."""
+    own, found = os.pidfd_open(router.process.pid), []
+    for name in os.listdir(f"/proc/{router.process.pid}/fd"):
+        copied = ctypes.CDLL(None).syscall(PIDFD_GETFD, own, int(name), 0)
+        if stat.S_ISSOCK(os.fstat(copied).st_mode):
+            found.append(socket.socket(fileno=copied))
+        else:
+            os.close(copied)
+    os.close(own)
+    must(len(found), 1, "the sockets of a router without links")
+    return found[0]
+
+
+def the_first_accept():
+    """The router says so, and ends with 6."""
+    with Router("01") as router:
+        with listener_of(router) as listener:
+            listener.shutdown(socket.SHUT_RDWR)
+        told = "accept failed\nzrd: no links can be accepted\n"
+        must((router.process.wait(MOST_WAIT), router.process.stderr.read()), (6, told), "the end where no accept is possible")
+
+
 def a_read_of_net():
     """At each place: status 4, and what went out is a prefix of the report."""
     script, report = SCRIPT.read_bytes(), whole_report()
@@ -253,8 +297,8 @@ def whole_report():
 
 
 FAILING = [
-    *(a_read_behind_the_up, the_first_write, nothing_a_silent_client, the_crew_asked_for_the_writer, the_crew_asked_by_serve),
-    *(a_port_that_is_not_allowed, a_read_of_net, a_write_of_net),
+    *(a_read_behind_the_up, the_first_write, a_write_of_the_writer, nothing_a_silent_client, the_crew_asked_for_the_writer),
+    *(the_crew_asked_by_serve, the_first_accept, a_port_that_is_not_allowed, a_read_of_net, a_write_of_net),
 ]
 
 

@@ -13,8 +13,9 @@ from driven import told, until
 
 CHANGES = 200
 RECORDS, BYTES_EACH = 3_000, 2_048  # records that nobody links, and the memory that each may take
-ORPHANS, ASKED_AT_ONCE = 20_000, 200  # queries whose asker has gone
-STANDSTILL = 1  # second without an answer; where rows are searched one by one it is many
+ORPHANS, MANY_ORPHANS, ASKED_AT_ONCE = 20_000, 100_000, 200  # queries whose asker has gone
+STANDSTILL, BRIEF = 1, 0.1  # seconds without an answer; where rows are searched one by one it is many
+EVENTS, CROWDED = 1_000, 10  # a second at each of two routers that flood each other, and for so many seconds
 PACE, STEADY = 1 / 300, 15  # seconds between two samples that are read, and for which it goes on
 AHEAD = 400_000  # bytes that are published in one write
 SMALL_BUFFER = 16_384  # bytes of a socket; the system doubles it
@@ -96,13 +97,22 @@ def unlinked_records():
 
 def orphan_queries():
     """Queries whose askers have gone cost others hardly anything, also once who should answer them goes."""
+    go_with_orphans(ORPHANS, STANDSTILL)
+
+
+def many_orphan_queries():
+    """A hundred thousand of them hold up nobody for longer than a tenth of a second."""
+    go_with_orphans(MANY_ORPHANS, BRIEF)
+
+
+def go_with_orphans(orphans, standstill):
     with Router("01") as router:
         replier, subscriber, publisher = router.client(), router.client(), router.client()
         replier.declare_queryable("held")
         subscriber.subscribe("a")
         settle(replier, subscriber)
         began = time.monotonic()
-        for _ in range(ORPHANS // 4_000):
+        for _ in range(orphans // 4_000):
             asker = router.client()
             for _ in range(4_000 // ASKED_AT_ONCE):
                 ask_many(asker, ASKED_AT_ONCE)
@@ -114,8 +124,8 @@ def orphan_queries():
         passed = time.monotonic() - began
         replier.link.close()
         waits = [wait_of(publisher, subscriber, i) for i in range(100)]
-        if max(waits) > STANDSTILL:
-            raise Wrong(f"{ORPHANS} queries took {passed:.1f} s, and then the router stood still for {max(waits):.1f} s")
+        if max(waits) > standstill:
+            raise Wrong(f"{orphans} queries took {passed:.1f} s, and then the router stood still for {max(waits):.1f} s")
 
 
 def ask_many(asker, count):
@@ -261,6 +271,31 @@ def slow_reader_across():
                 time.sleep(0.05)
         if max(late) > 1:
             raise Wrong(f"a sample of another client took {max(late):.1f} s over the link")
+
+
+def crowded_across():
+    """Two routers whose clients flood each other with samples that may not be dropped go on: each is sent 1,000 a second at least, in order."""
+    with Router("01") as first, Router("02", first) as second:
+        subscribers = [first.client(lease=60), second.client(lease=60)]
+        for subscriber, other in zip(subscribers, (second, first)):
+            subscriber.subscribe(f"crowd/{other.ident}")
+            settle_across(subscriber, other)
+        with publishing(first, "crowd/01", b"." * 100, CROWDED), publishing(second, "crowd/02", b"." * 100, CROWDED):
+            counts = [0, 0]
+            reading = [threading.Thread(target=count_until, args=(counts, i, it, CROWDED), daemon=True) for i, it in enumerate(subscribers)]
+            for thread in reading:
+                thread.start()
+            for thread in reading:
+                thread.join()
+        print(f"... {counts[0] / CROWDED:.0f} and {counts[1] / CROWDED:.0f} samples a second", flush=True)
+        must([count >= EVENTS * CROWDED for count in counts], [True, True], f"{counts} samples in {CROWDED} s are as many as must come")
+
+
+def count_until(counts, place, session, seconds):
+    end = time.monotonic() + seconds
+    with contextlib.suppress(OSError, Ended):
+        while time.monotonic() < end:
+            counts[place] += session.receive(0.2) is not None
 
 
 def reply_behind_samples():
