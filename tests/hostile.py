@@ -16,6 +16,7 @@ RECORDS, BYTES_EACH = 3_000, 2_048  # records that nobody links, and the memory 
 ORPHANS, MANY_ORPHANS, ASKED_AT_ONCE = 20_000, 100_000, 200  # queries whose asker has gone
 STANDSTILL, BRIEF = 1, 0.1  # seconds without an answer; where rows are searched one by one it is many
 EVENTS, CROWDED = 1_000, 10  # a second at each of two routers that flood each other, and for so many seconds
+PASSED, PASSES = 32_768, 0.05  # bytes that go over a narrow link at a time, and seconds between two times
 PACE, STEADY = 1 / 300, 15  # seconds between two samples that are read, and for which it goes on
 AHEAD = 400_000  # bytes that are published in one write
 SMALL_BUFFER = 16_384  # bytes of a socket; the system doubles it
@@ -273,9 +274,32 @@ def slow_reader_across():
             raise Wrong(f"a sample of another client took {max(late):.1f} s over the link")
 
 
+@contextlib.contextmanager
+def throttled(router):
+    """The port of a relay to a router, over which little goes at a time, either way: what is to go over it waits in the rings."""
+    with socket.create_server(("127.0.0.1", 0)) as door:
+        door.setsockopt(socket.SOL_SOCKET, socket.SO_RCVBUF, SMALL_BUFFER)
+        threading.Thread(target=relay, args=(door, router), daemon=True).start()
+        yield door.getsockname()[1]
+
+
+def relay(door, router):
+    ends = door.accept()[0], small_socket(socket.socket)
+    ends[1].connect(router.address)
+    for one, other in (ends, ends[::-1]):
+        threading.Thread(target=pass_on, args=(one, other), daemon=True).start()
+
+
+def pass_on(one, other):
+    with contextlib.suppress(OSError):
+        while content := one.recv(PASSED):
+            other.sendall(content)
+            time.sleep(PASSES)
+
+
 def crowded_across():
-    """Two routers whose clients flood each other with samples that may not be dropped go on: each is sent 1,000 a second at least, in order."""
-    with Router("01") as first, Router("02", first) as second:
+    """Where the rings of two routers towards each other are crowded, each is sent 1,000 samples a second at least that may not be dropped."""
+    with Router("01") as first, throttled(first) as port, Router("02", port) as second:
         subscribers = [first.client(lease=60), second.client(lease=60)]
         for subscriber, other in zip(subscribers, (second, first)):
             subscriber.subscribe(f"crowd/{other.ident}")
@@ -293,9 +317,8 @@ def crowded_across():
 
 def count_until(counts, place, session, seconds):
     end = time.monotonic() + seconds
-    with contextlib.suppress(OSError, Ended):
-        while time.monotonic() < end:
-            counts[place] += session.receive(0.2) is not None
+    while time.monotonic() < end:
+        counts[place] += session.receive(0.2) is not None
 
 
 def reply_behind_samples():
