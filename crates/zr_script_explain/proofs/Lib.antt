@@ -1,1 +1,8 @@
 pub mod Keys
+mod CaretPlaces
+mod CaretSteps
+mod CaretForms
+mod CaretLinks
+mod CaretQueries
+mod CaretFound
+mod Carets

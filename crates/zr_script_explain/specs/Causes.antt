@@ -1,5 +1,5 @@
 -- What is said of a refused line: a sentence with the cause.
-use Rattle.std.specs.Prelude.{ℕ, ◌||◌, not, nat_eq, nat_lt, Bool, if◌then◌else◌, List, [], ◌∷◌, ◌++◌, length, map, drop, codes, Option, Some, None, Result, Ok, Err}
+use Rattle.std.specs.Prelude.{ℕ, ◌||◌, not, nat_eq, nat_lt, Bool, if◌then◌else◌, List, [], ◌∷◌, ◌++◌, length, drop, codes, Option, Some, None, Result, Ok, Err}
 use Rattle.std.specs.List.{slice_get}
 use Rattle.std.specs.Cmp.Lexicographic.{pointwise}
 use Rattle.zr_caret.specs.Shown.{shown}
@@ -9,7 +9,7 @@ use Rattle.zr_key.specs.declared.key.KeyError.TheVariants as k
 use Rattle.zr_script_spec.specs.declared.error.ScriptError.{ScriptError}
 use Rattle.zr_script_spec.specs.declared.error.ScriptError.TheVariants.{UnknownCommand, BadWords, BadKey, UnknownName, NameTaken, NotLinked, AlreadyLinked, NothingThere, NotAsked, NotSettled, NotSamples, NotJoined, Limit, NoMemory}
 use Rattle.zr_script_spec.specs.Lines.{most_line}
-use Rattle.zr_script_spec.specs.Words.{is_word, is_clean, is_printable, is_space}
+use Rattle.zr_script_spec.specs.Words.{is_word, is_clean, is_space}
 use Rattle.zr_script_explain.specs.Forms.{word_at, declares, undeclares, is_query, is_interest, ends_interest, is_of_client, is_numbered, key_number, form}
 use Rattle.zr_script_explain.specs.Places.{has_all, is_first_good, is_name, is_target, is_mode, is_kind, is_query_bad, is_time_bad, is_interest_bad, is_weight_bad, odd_byte}
 

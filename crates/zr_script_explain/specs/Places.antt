@@ -1,5 +1,5 @@
 -- Where a refused line is wrong: at which word, or at which byte.
-use Rattle.std.specs.Prelude.{ℕ, ◌+◌, ◌-◌, ◌^◌, ◌==◌, ◌&&◌, ◌||◌, not, nat_lt, nat_le, Bool, true, false, if◌then◌else◌, List, [], ◌∷◌, length, codes, position, Option, Some, None, is_some}
+use Rattle.std.specs.Prelude.{ℕ, ◌+◌, ◌-◌, ◌^◌, ◌&&◌, ◌||◌, not, nat_lt, nat_le, Bool, if◌then◌else◌, List, length, codes, position, Option, Some, None, is_some}
 use Rattle.std.specs.List.{slice_get}
 use Rattle.zr_caret.specs.Shown.{place_of_word}
 use Rattle.zr_id.specs.Zid.{zid_of_hex}

@@ -5,7 +5,9 @@
 mod causes;
 mod explaining;
 mod forms;
+mod laws;
 mod places;
 mod put;
 
 pub use explaining::explain;
+pub use laws::carets_are_under_faults;
