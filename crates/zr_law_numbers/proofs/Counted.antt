@@ -24,7 +24,8 @@ use Rattle.zr_world_spec.proofs.Lines.{all_steps}
 use Rattle.zr_world_spec.specs.Run.{Run, start, stepped, commanded, on_line, run_lines}
 use Rattle.zr_world_spec.proofs.Counting.{recounted, outcome_recounted}
 use Rattle.zr_world_spec.proofs.Sound.{next_goes}
-use Rattle.zr_law_numbers.specs.Taken.{most_acts, StepsArePossible}
+use Rattle.zr_law_numbers.specs.Calls.{most_commands}
+use Rattle.zr_law_numbers.specs.Taken.{StepsArePossible}
 
 -- what was said first, and then the rest
 abbrev said_first : List ReportLine → List ReportLine × WorldState → Done
@@ -113,7 +114,7 @@ module _ (P : ℕ → WorldState → Type 0) (begins : P 0 empty_world) (later :
           (later ((lines + w.booked) + length several) (lines + y.1.booked) y.1 le m.0, omega (arith, e, room))
 
   -- the steps of a fan count nothing, since they are all on samples
-  light_lead : (line : ℕ) (several : List Act) (k booked : ℕ) (w : WorldState) → list_all is_step several ≡ true → P k w → Q w → w.booked ≡ booked → IfOk (all_done w line several) (Led k booked)
+  pub light_lead : (line : ℕ) (several : List Act) (k booked : ℕ) (w : WorldState) → list_all is_step several ≡ true → P k w → Q w → w.booked ≡ booked → IfOk (all_done w line several) (Led k booked)
   light_lead line [] k booked w ok h q e = (h, e)
   light_lead line (a ∷ more) k booked w ok h q e =
       let parts = and_parts (is_step a) (list_all is_step more) ok in
@@ -128,25 +129,33 @@ module _ (P : ℕ → WorldState → Type 0) (begins : P 0 empty_world) (later :
           at (Err f) m = tt
           at (Ok y) m = m
 
-  fan_leads : (lines line : ℕ) (w : WorldState) → Behind lines w → IfOk (fan_step w line) (λ x. Behind lines x.1)
+  -- so a fan counts nothing
+  pub fan_keeps : (line k : ℕ) (w : WorldState) → P k w → IfOk (fan_step w line) (Led k w.booked)
   unfolding fan_step fan_done
-  fan_leads lines line w h = by (is_settled w) (are_samples w) refl (are_many w || are_long w)
+  fan_keeps line k w h = by (is_settled w) (are_samples w) refl (are_many w || are_long w)
     where
       tells : List ReportLine × WorldState → Done
       tells x = Ok (fanned x.1.routers x.0 ∷ [], x.1)
 
-      done : (d : Done) → IfOk d (Led (lines + w.booked) w.booked) → IfOk (d >>= tells) (λ x. Behind lines x.1)
+      done : (d : Done) → IfOk d (Led k w.booked) → IfOk (d >>= tells) (Led k w.booked)
       done (Err e) m = tt
-      done (Ok y) m =
-          let e = m.1 in
-          let most = h.1 in
-          (subst (λ n. P (lines + n) y.1) (sym e) m.0, omega (arith, e, most))
+      done (Ok y) m = m
 
-      by : (a b : Bool) → are_samples w ≡ b → (c : Bool) → IfOk (unless (not a) NotSettled >>= (λ u. unless (not b) NotSamples >>= (λ v. unless c Limit >>= (λ z. fan_done line w)))) (λ x. Behind lines x.1)
+      by : (a b : Bool) → are_samples w ≡ b → (c : Bool) → IfOk (unless (not a) NotSettled >>= (λ u. unless (not b) NotSamples >>= (λ v. unless c Limit >>= (λ z. fan_done line w)))) (Led k w.booked)
       by false b is c = tt
       by true false is c = tt
       by true true is true = tt
-      by true true is false = done (all_done w line (fan_steps line w)) (light_lead line (fan_steps line w) (lines + w.booked) w.booked w (all_steps line most_fan_steps w) h.0 (samples w is) refl)
+      by true true is false = done (all_done w line (fan_steps line w)) (light_lead line (fan_steps line w) k w.booked w (all_steps line most_fan_steps w) h (samples w is) refl)
+
+  fan_leads : (lines line : ℕ) (w : WorldState) → Behind lines w → IfOk (fan_step w line) (λ x. Behind lines x.1)
+  fan_leads lines line w h = by (fan_step w line) (fan_keeps line (lines + w.booked) w h.0)
+    where
+      by : (d : Done) → IfOk d (Led (lines + w.booked) w.booked) → IfOk d (λ x. Behind lines x.1)
+      by (Err e) m = tt
+      by (Ok y) m =
+          let e = m.1 in
+          let most = h.1 in
+          (subst (λ n. P (lines + n) y.1) (sym e) m.0, omega (arith, e, most))
 
   applied_leads : (lines : ℕ) (w : WorldState) (line : ℕ) (command : Command) → Behind lines w → IfOk (applied w line command) (λ x. Behind (lines + 1) x.1)
   unfolding applied book_step
@@ -199,8 +208,8 @@ module _ (P : ℕ → WorldState → Type 0) (begins : P 0 empty_world) (later :
       let most = at.1 in
       later (0 + length ls + (run_lines ls).world.booked) (most_bytes + most_steps) (run_lines ls).world (omega (arith, few, most)) at.0
 
-  module _ (says : (k : ℕ) (w : WorldState) → k ≤ most_acts → P k w → IsSound w × AllAreTaken w) where
-    steps_go : (line n k : ℕ) (w : WorldState) → k + n ≤ most_acts → P k w → is_ok (all_done w line (run_steps line n w)) ≡ true
+  module _ (says : (k : ℕ) (w : WorldState) → k ≤ most_commands → P k w → IsSound w × AllAreTaken w) where
+    steps_go : (line n k : ℕ) (w : WorldState) → k + n ≤ most_commands → P k w → is_ok (all_done w line (run_steps line n w)) ≡ true
     unfolding run_steps
     steps_go line zero k w most h = refl
     steps_go line (suc n) k w most h = by (next w) refl (λ v p. steps_go line n (k + 1) v (omega (arith, most)) p)

@@ -9,7 +9,6 @@ use Rattle.std.proofs.lemmas.Grind.{flat_map-append}
 use Rattle.zr_lists.proofs.Tests.{all_parts}
 use Rattle.zr_id.specs.Zid.{is_named}
 use Rattle.zr_id.specs.declared.link.LinkNo.{LinkNo}
-use Rattle.zr_msg.specs.declared.event.Event.{Event}
 use Rattle.zr_msg.specs.declared.event.Event.TheVariants.{From}
 use Rattle.zr_msg.specs.declared.msg.Msg.{Msg}
 use Rattle.zr_msg.specs.declared.msg.Msg.TheVariants.{Sub, Unsub, Token, Untoken, Able, Unable, Interest, EndInterest, ToldSub, ToldAble, ToldUnsub, ToldToken, ToldUntoken, ToldUnable, ToldEnd, Push, Request, Response, Final, State, Step, Snap}
@@ -19,14 +18,13 @@ use Rattle.zr_script_spec.specs.declared.command.Act.TheVariants as a
 use Rattle.zr_node_spec.specs.Tables.{link_to}
 use Rattle.zr_node_spec.specs.State.{NodeState}
 use Rattle.zr_node_spec.specs.Table.{sends, after}
-use Rattle.zr_world_spec.specs.World.{Tagged, RouterState, EndState, End, Ends, Routers, WorldState, is_end, router_of, end_of, with_router, with_end, with_wire, with_queue, changed, sent, queued}
-use Rattle.zr_world_spec.specs.Acts.{sends_to, all_queued, hearing, outcome}
+use Rattle.zr_world_spec.specs.World.{Tagged, RouterState, EndState, End, Ends, WorldState, is_end, router_of, end_of, with_router, with_end, with_wire, with_queue, sent, queued}
+use Rattle.zr_world_spec.specs.Acts.{sends_to, hearing, outcome}
 use Rattle.zr_world_spec.specs.Fan.{is_sample, waiting_at, are_samples}
 use Rattle.zr_world_spec.specs.Moments.{Moment, is_step, went}
 use Rattle.zr_world_spec.proofs.Cases.{w_take, for_take}
 use Rattle.zr_world_spec.proofs.Ends.{end_passes, read_with_end, read_changed, read_all_queued}
 use Rattle.zr_world_spec.proofs.Names.{read_after}
-use Rattle.zr_world_spec.proofs.Telling.{is_told}
 use Rattle.zr_law_settled.proofs.Told.{IsTold, by_told, of_each, w_handle, for_handle}
 use Rattle.zr_law_settled.proofs.Spreading.{Name}
 use Rattle.zr_law_numbers.specs.Deeds.{Deed, handles_msg}

@@ -2,4 +2,5 @@ pub mod Rows
 pub mod Waiting
 pub mod Deeds
 pub mod Numbers
+pub mod Calls
 pub mod Taken

@@ -1,5 +1,5 @@
--- No router of a script comes near its record's limits. Its own record's number goes up once a line at most, since steps of runs change no
--- own record (`lines_bounded`); and its own links are names of routers that are there, none of them twice, which are 64 at most.
+-- No router of a world comes near its record's limits. Its own record's number goes up once an act at most, since steps of runs change no
+-- own record (`BoundedActs`); and its own links are names of routers that are there, none of them twice, which are 64 at most.
 use Rattle.std.proofs.Common.{◌≡◌, ◌≤◌, ◌+◌, ℕ, Bool, true, false, cond, [], ◌∷◌, Option, Some, None, refl, sym, ap, ◌∙◌, subst, arith}
 use Rattle.std.specs.List.Sorted.{IsStrictlySortedBy}
 use Rattle.std.specs.Option.{option_map_or}

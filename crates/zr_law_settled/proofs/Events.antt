@@ -1,5 +1,5 @@
 -- No link's event is refused by a router's own record: own numbers are far below their limit, and own links are few.
-use Rattle.std.proofs.Common.{◌≡◌, ◌≤◌, ℕ, false, cond, List, length, Option, Some, None, refl, sym, ap, ◌∙◌, subst, arith}
+use Rattle.std.proofs.Common.{◌≡◌, ◌≤◌, ◌<◌, ℕ, false, cond, length, Option, Some, None, refl, sym, ap, ◌∙◌, arith}
 use Rattle.std.specs.Prelude.{◌-◌, ◌^◌}
 use Rattle.std.specs.Cmp.Lexicographic.{slice_cmp}
 use Rattle.std.specs.Ordering.{nat_cmp}
@@ -16,25 +16,20 @@ use Rattle.zr_msg.specs.declared.peer.Role.{Role}
 use Rattle.zr_msg.specs.declared.peer.Role.TheVariants.{Client, Router}
 use Rattle.zr_msg.specs.declared.peer.LinkPeer.{LinkPeer}
 use Rattle.zr_node_spec.specs.Table.{own_links, is_worn, is_full, refuses_up, refuses_down, refuses_parting}
-use Rattle.zr_script_spec.specs.Lines.{most_bytes}
 use Rattle.zr_world_spec.specs.World.{RouterState, WorldState, router_of}
-use Rattle.zr_world_spec.specs.Run.{run_lines}
-use Rattle.zr_world_spec.specs.Accepted.{accepted}
-use Rattle.zr_world_spec.specs.Moments.{Moment, reached}
+use Rattle.zr_world_spec.specs.Sound.{IsSound}
 use Rattle.zr_world_spec.proofs.Names.{names}
-use Rattle.zr_world_spec.proofs.Lines.{at_some, lines_are_moments}
 use Rattle.zr_law_settled.proofs.Spreading.{Name}
-use Rattle.zr_law_settled.proofs.Worlds.{there_in}
+use Rattle.zr_law_settled.proofs.Worlds.{Holds, there_in}
 use Rattle.zr_law_settled.proofs.Changes.{listed}
-use Rattle.zr_law_settled.proofs.Keeping.{Stands, moments_hold}
 use Rattle.zr_law_settled.proofs.Bounds.{IsBounded}
-use Rattle.zr_law_settled.proofs.Lines.{AreBounded, lines_bounded}
+use Rattle.zr_law_settled.proofs.BoundedActs.{AreBounded}
 
 -- own links are routers that are there, each once
-links_few : (m : Moment) → Stands m → (x : Name) (r : RouterState) → router_of m.world.routers x ≡ Some r → (n : ℕ) → IsBounded n r.node.base → length (own_links r.node.base) ≤ length m.world.routers
-links_few m stands x r found n bounded =
-    let few = length-le_from_keys names (linked_ids (own_links r.node.base)) m.world.routers (IsDistinct-from_sorted (slice_cmp nat_cmp) (linked_ids (own_links r.node.base)) bounded.ascend) (λ q t.
-    (and_parts (there_in m.world q) _ (sym (listed m.world stands.holds stands.sound x r found q) ∙ same_any (λ y. is_named y q) (is_named q) (linked_ids (own_links r.node.base)) (λ y i. names.symm y q) ∙ t)).0) in
+links_few : (w : WorldState) → IsSound w → Holds w → (x : Name) (r : RouterState) → router_of w.routers x ≡ Some r → (n : ℕ) → IsBounded n r.node.base → length (own_links r.node.base) ≤ length w.routers
+links_few w sound holds x r found n bounded =
+    let few = length-le_from_keys names (linked_ids (own_links r.node.base)) w.routers (IsDistinct-from_sorted (slice_cmp nat_cmp) (linked_ids (own_links r.node.base)) bounded.ascend) (λ q t.
+    (and_parts (there_in w q) _ (sym (listed w holds sound x r found q) ∙ same_any (λ y. is_named y q) (is_named q) (linked_ids (own_links r.node.base)) (λ y i. names.symm y q) ∙ t)).0) in
     omega (arith, few, length-map (own_links r.node.base) (λ (l : LinkedState). l.id))
 
 -- a base with room for one more change takes each event
@@ -51,36 +46,24 @@ module _ (b : BaseState) (fresh : is_worn b ≡ false) (room : is_full b ≡ fal
   takes_down None = refl
   takes_down (Some l) = takes_parting l.peer.role
 
--- No router of a script's world refuses that a link comes up or goes down by its own record.
+-- no router of a world with so few changes of links refuses by its own record that a link comes up or goes down
 pub record TakesLinks (b : BaseState) : Type 0 where
   pub up : (role : Role) → refuses_up b role ≡ None
   pub down : (o : Option LinkPeer) → refuses_down b o ≡ None
 
-pub links_are_taken : (ls : List (List ℕ)) (x : Name) (r : RouterState) → length ls ≤ most_bytes → router_of (run_lines ls).world.routers x ≡ Some r → TakesLinks r.node.base
-links_are_taken ls x r most found = record { up = takes_up r.node.base fresh room; down = takes_down r.node.base fresh room }
+pub links_are_taken : (w : WorldState) → IsSound w → Holds w → (n : ℕ) → n < 2 ^ 64 - 1 → AreBounded n w.routers → (x : Name) (r : RouterState) → router_of w.routers x ≡ Some r → TakesLinks r.node.base
+links_are_taken w sound holds n least bounds x r found = record { up = takes_up r.node.base fresh room; down = takes_down r.node.base fresh room }
   where
-    bounds : AreBounded (length ls) (run_lines ls).world.routers
-    bounds = lines_bounded ls
-
-    bounded : IsBounded (length ls) r.node.base
+    bounded : IsBounded n r.node.base
     bounded = bounds.each x r found
-
-    m : Moment
-    m = (lines_are_moments ls).1.0
-
-    stands : Stands m
-    stands = at_some Stands (reached (accepted ls)) m (lines_are_moments ls).1.1.is_reached (moments_hold (accepted ls))
-
-    same : (run_lines ls).world.routers ≡ m.world.routers
-    same = ap (λ (w : WorldState). w.routers) (lines_are_moments ls).1.1.is_told.world_is
 
     few : length (own_links r.node.base) ≤ 64
     few =
-        let most : length m.world.routers ≤ 64 = subst (λ rs. length rs ≤ 64) same bounds.few in
-        omega (arith, most, links_few m stands x r (ap (λ rs. router_of rs x) (sym same) ∙ found) (length ls) bounded)
+        let most : length w.routers ≤ 64 = bounds.few in
+        omega (arith, most, links_few w sound holds x r found n bounded)
 
     fresh : is_worn r.node.base ≡ false
-    fresh = ne_eqb (own_seq r.node.base) (2 ^ 64 - 1) (λ e. absurd (omega (arith, e, bounded.number, most)))
+    fresh = ne_eqb (own_seq r.node.base) (2 ^ 64 - 1) (λ e. absurd (omega (arith, e, bounded.number, least)))
 
     room : is_full r.node.base ≡ false
     room = lt-leb 65535 (length (own_links r.node.base)) (omega (arith, few))

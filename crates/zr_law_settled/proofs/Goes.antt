@@ -37,7 +37,7 @@ use Rattle.zr_law_settled.proofs.Orderly.{Orderly, act_orderly, empty_orderly}
 use Rattle.zr_law_settled.proofs.Weights.{WeightsHold}
 use Rattle.zr_law_settled.proofs.WeightsActs.{weights_first, weights_keep, weights_counted, weights_take, handle_holds}
 use Rattle.zr_law_settled.proofs.Heard.{event_stays}
-use Rattle.zr_law_settled.proofs.Lines.{AreBounded, act_bounded}
+use Rattle.zr_law_settled.proofs.BoundedActs.{AreBounded, bounded_first, bounded_on}
 use Rattle.zr_law_settled.proofs.Told.{w_handle}
 use Rattle.zr_law_settled.proofs.Wanting.{wants_few, hub_takes}
 use Rattle.zr_law_settled.proofs.InTurn.{in_turn}
@@ -65,14 +65,14 @@ goes_first = record {
   orderly = empty_orderly;
   gaps = empty_gaps;
   weights = weights_first;
-  bounded = (0, record { few = omega arith; each = λ x r found. absurd (cc) });
+  bounded = (0, bounded_first);
 }
 
 pub act_goes : (now : Moment) (n : ℕ) (act : Act) → Goes now.world → IfSome (went now (outcome now.world n act)) (λ next. Goes next.world)
 act_goes now n act g =
     by (outcome now.world n act) (act_keeps now.world n act g.sound) (acts_keep now g.sound g.holds n act) (logs_keep now g.sound g.holds g.logs n act) (sets_keep now g.sound g.holds g.logs g.sets n act)
     (clients_keep now g.sound g.clients n act) (act_orderly now g.sound g.orderly n act) (gaps_keep now g.sound g.holds g.logs g.gaps n act) (weights_keep now.world n act g.weights)
-    _ (act_bounded g.bounded.0 now g.bounded.1 n act)
+    _ (bounded_on g.bounded.0 now g.bounded.1 n act)
   where
     by : (o : Outcome) → IfOk o (λ x. IsSound x.1) → IfSome (went now o) (λ next. IsSound next.world → Holds next.world) → IfSome (went now o) (λ next. IsSound next.world → LogsHold next.world) →
         IfSome (went now o) (λ next. SetsHold next.world) → IfSome (went now o) (λ next. ClientsHold next.world) → IfSome (went now o) (λ next. IsSound next.world → Orderly next.world) →

@@ -21,7 +21,7 @@ pub mod Order
 pub mod Tables
 pub mod Graphs
 pub mod Bounds
-pub mod Lines
+pub mod BoundedActs
 pub mod Events
 pub mod Positions
 pub mod Children

@@ -41,6 +41,10 @@ RequestsAreTaken w = (x y : List ℕ) (r : RouterState) (l : LinkPeer) (at : End
     (tree : Option (List ℕ)) (id : ℕ) (target : Target) (content : Parts) (tag : ℕ) (rest : List Tagged) → at.wire ≡ record { msg = Request tree id target content; tag = tag } ∷ rest →
     refuses_request r.node l.link.0 id (asked_links (tables r.node) l.link.0 tree target content.key) ≡ None
 
+-- each router takes each event that may come to it
+abbrev pub EventsAreTaken : WorldState → Type 0
+EventsAreTaken w = (x : List ℕ) (r : RouterState) (event : Event) → router_of w.routers x ≡ Some r → IsHeard w x r event → refuses_of r event ≡ None
+
 -- behind any lines of a script, as many as a script may have, each router takes each event that may come to it, and has ids enough for what its
 -- clients want to be told
 abbrev pub NoEventIsRefused : Type 0

@@ -1,11 +1,10 @@
--- What is bounded by how many lines were read: each router's own number (`lines_bounded`); and how many routers there are is bounded at all.
-use Rattle.std.proofs.Common.{◌≡◌, ◌≤◌, ◌<◌, ◌+◌, ℕ, suc, Bool, true, false, cond, List, [], ◌∷◌, ◌++◌, length, Option, Some, None, is_some, Result, Ok, Err, Ordering, Less, Equal, Greater, sym, ap, ◌∙◌, subst, arith}
-use Rattle.std.specs.Prelude.{◌||◌, not, nat_le, IfSome, IfOk, is_none, unwrap_or}
-use Rattle.std.specs.List.{fold, list_all}
+-- What is bounded by how many acts a world has taken: each router's own number, which steps leave as it is; and how many routers there are, at all.
+use Rattle.std.proofs.Common.{◌≡◌, ◌≤◌, ◌<◌, ◌+◌, ℕ, suc, Bool, true, false, cond, List, [], ◌∷◌, length, Option, Some, None, Ordering, Less, Equal, Greater, sym, ap, ◌∙◌, subst, arith}
+use Rattle.std.specs.Prelude.{IfSome, unwrap_or}
 use Rattle.std.specs.BTreeMap.{insert_entry}
 use Rattle.std.specs.Ordering.{nat_cmp, match_ordering}
 use Rattle.std.specs.Cmp.Lexicographic.{slice_cmp}
-use Rattle.std.proofs.lemmas.Bool.{and_parts, leb-false}
+use Rattle.std.proofs.lemmas.Bool.{leb-false}
 use Rattle.std.proofs.lemmas.List.{length-map}
 use Rattle.std.proofs.lemmas.Map.{length-set_value}
 use Rattle.zr_lists.proofs.Options.{not_there}
@@ -15,26 +14,15 @@ use Rattle.zr_msg.specs.declared.msg.Msg.TheVariants as m
 use Rattle.zr_msg.specs.declared.event.Event.{Event}
 use Rattle.zr_msg.specs.declared.event.Event.TheVariants.{Down, From}
 use Rattle.zr_msg.specs.declared.peer.Role.TheVariants.{Client}
-use Rattle.zr_script_spec.specs.declared.error.ScriptError.{ScriptError}
-use Rattle.zr_script_spec.specs.declared.error.ScriptError.TheVariants.{Limit, NotSamples, NotSettled}
 use Rattle.zr_script_spec.specs.declared.command.Act.{Act}
 use Rattle.zr_script_spec.specs.declared.command.Act.TheVariants as a
-use Rattle.zr_script_spec.specs.declared.command.Command.{Command}
-use Rattle.zr_script_spec.specs.declared.command.Command.TheVariants as c
 use Rattle.zr_script_spec.specs.declared.report.ReportLine.{ReportLine}
-use Rattle.zr_script_spec.specs.declared.report.ReportLine.TheVariants.{Ran}
-use Rattle.zr_script_spec.specs.Step.{◌>>=◌}
-use Rattle.zr_script_spec.specs.Command.{command_of}
 use Rattle.zr_node_spec.specs.Table.{able_kind, after}
-use Rattle.zr_world_spec.specs.World.{RouterState, Routers, WorldState, router_of, with_router, new_router, most_routers, most_steps, is_settled}
-use Rattle.zr_world_spec.specs.Fan.{are_samples, are_many, are_long, most_fan_steps, fanned}
-use Rattle.zr_world_spec.specs.Acts.{Outcome, unless, outcome, hearing, weighing, up_event, peer_of}
-use Rattle.zr_world_spec.specs.Next.{Done, next, run_steps, all_done, booking, book_step, run_done, fan_steps, fan_done, fan_step, applied}
+use Rattle.zr_world_spec.specs.World.{RouterState, Routers, WorldState, router_of, with_router, new_router, most_routers}
+use Rattle.zr_world_spec.specs.Acts.{outcome, hearing, weighing, up_event, peer_of}
 use Rattle.zr_world_spec.specs.Moments.{Moment, is_step, went}
-use Rattle.zr_world_spec.specs.Run.{Run, start, stepped, commanded, on_line, run_lines}
 use Rattle.zr_world_spec.proofs.Names.{value_new, read_after}
 use Rattle.zr_world_spec.proofs.Cases.{free_name, for_router, for_link, for_break, for_declare, for_undeclare, publish_says, get_says, reply_says, end_says, for_take, for_mark, for_show, interest_says, uninterest_says}
-use Rattle.zr_world_spec.proofs.Lines.{all_steps}
 use Rattle.zr_law_settled.proofs.Told.{IsTold, of_each, for_client, for_up, for_down, for_handle}
 use Rattle.zr_law_settled.proofs.Spreading.{Name}
 use Rattle.zr_law_settled.proofs.Bounds.{IsBounded, cost, bounded_after, bounded_fresh, bounded_later}
@@ -44,7 +32,10 @@ pub record AreBounded (n : ℕ) (routers : Routers) : Type 0 where
   pub few : length routers ≤ most_routers
   pub each : (x : Name) (r : RouterState) → router_of routers x ≡ Some r → IsBounded n r.node.base
 
-later : (n m : ℕ) (routers : Routers) → n ≤ m → AreBounded n routers → AreBounded m routers
+pub bounded_first : AreBounded 0 []
+bounded_first = record { few = omega arith; each = λ x r found. absurd (cc) }
+
+pub later : (n m : ℕ) (routers : Routers) → n ≤ m → AreBounded n routers → AreBounded m routers
 later n m routers le h = record { few = h.few; each = λ x r found. bounded_later n m r.node.base le (h.each x r found) }
 
 -- one router has another state
@@ -144,76 +135,9 @@ module _ (n : ℕ) (now : Moment) (h : AreBounded n now.world.routers) where
   act_bounded line a.Mark = for_mark now (Bound (n + 1)) line (λ settled joined. stays)
   act_bounded line (a.Show router) = for_show now (Bound (n + 1)) router (λ r found. stays)
 
--- ---- commands
-
-act_of : (n : ℕ) (w : WorldState) (line : ℕ) (act : Act) → AreBounded n w.routers → IfOk (outcome w line act) (λ x. AreBounded (n + weight act) x.1.routers)
-act_of n w line act h = by (outcome w line act) (act_bounded n (record { world = w; report = [] }) h line act)
-  where
-    by : (o : Outcome) → IfSome (went (record { world = w; report = [] }) o) (λ next. AreBounded (n + weight act) next.world.routers) → IfOk o (λ x. AreBounded (n + weight act) x.1.routers)
-    by (Ok x) k = k
-    by (Err e) k = tt
-
--- steps change no own record
-step_of : (n : ℕ) (w : WorldState) (line : ℕ) (act : Act) → is_step act ≡ true → AreBounded n w.routers → IfOk (outcome w line act) (λ x. AreBounded n x.1.routers)
-step_of n w line act step h = by (outcome w line act) (act_of n w line act h)
-  where
-    none : n + weight act ≡ n
-    none = ap (λ t. n + cond t 0 1) step ∙ omega arith
-
-    by : (o : Outcome) → IfOk o (λ x. AreBounded (n + weight act) x.1.routers) → IfOk o (λ x. AreBounded n x.1.routers)
-    by (Ok x) k = subst (λ m. AreBounded m x.1.routers) none k
-    by (Err e) k = tt
-
--- what was said first, and then the rest
-abbrev said_first : List ReportLine → List ReportLine × WorldState → Done
-said_first said y = Ok (said ++ y.0, y.1)
-
-steps_of : (n line : ℕ) (several : List Act) (w : WorldState) → list_all is_step several ≡ true → AreBounded n w.routers → IfOk (all_done w line several) (λ x. AreBounded n x.1.routers)
-steps_of n line [] w steps h = h
-steps_of n line (act ∷ more) w steps h =
-    let parts = and_parts (is_step act) (list_all is_step more) steps in
-    by (outcome w line act) (step_of n w line act parts.0 h) (λ v k. steps_of n line more v parts.1 k)
-  where
-    by : (o : Outcome) → IfOk o (λ x. AreBounded n x.1.routers) → ((v : WorldState) → AreBounded n v.routers → IfOk (all_done v line more) (λ x. AreBounded n x.1.routers)) →
-        IfOk (o >>= (λ x. all_done x.1 line more >>= (said_first x.0))) (λ x. AreBounded n x.1.routers)
-    by (Err e) k ih = tt
-    by (Ok x) k ih = at (all_done x.1 line more) (ih x.1 k)
-      where
-        at : (d : Done) → IfOk d (λ x. AreBounded n x.1.routers) → IfOk (d >>= (said_first x.0)) (λ x. AreBounded n x.1.routers)
-        at (Err e) m = tt
-        at (Ok y) m = m
-
-run_of : (n : ℕ) (w : WorldState) (line steps : ℕ) → AreBounded n w.routers → IfOk (run_done line steps w) (λ x. AreBounded n x.1.routers)
-unfolding run_done
-run_of n w line steps h = by (all_done w line (run_steps line steps w)) (steps_of n line (run_steps line steps w) w (all_steps line steps w) h)
-  where
-    closes : List ReportLine × WorldState → Done
-    closes x = Ok (x.0 ++ Ran (length (run_steps line steps w)) (is_none (next x.1)) ∷ [], x.1)
-
-    by : (d : Done) → IfOk d (λ x. AreBounded n x.1.routers) → IfOk (d >>= closes) (λ x. AreBounded n x.1.routers)
-    by (Err e) m = tt
-    by (Ok y) m = m
-
-fan_of : (n : ℕ) (w : WorldState) (line : ℕ) → AreBounded n w.routers → IfOk (fan_step w line) (λ x. AreBounded n x.1.routers)
-unfolding fan_step fan_done
-fan_of n w line h = by (not (is_settled w)) (not (are_samples w)) (are_many w || are_long w)
-  where
-    tells : List ReportLine × WorldState → Done
-    tells x = Ok (fanned x.1.routers x.0 ∷ [], x.1)
-
-    done : (d : Done) → IfOk d (λ x. AreBounded n x.1.routers) → IfOk (d >>= tells) (λ x. AreBounded n x.1.routers)
-    done (Err e) m = tt
-    done (Ok y) m = m
-
-    by : (a b c : Bool) → IfOk (unless a NotSettled >>= (λ u. unless b NotSamples >>= (λ v. unless c Limit >>= (λ z. fan_done line w)))) (λ x. AreBounded n x.1.routers)
-    by true b c = tt
-    by false true c = tt
-    by false false true = tt
-    by false false false = done (all_done w line (fan_steps line w)) (steps_of n line (fan_steps line w) w (all_steps line most_fan_steps w) h)
-
-command_of_line : (n : ℕ) (w : WorldState) (line : ℕ) (command : Command) → AreBounded n w.routers → IfOk (applied w line command) (λ x. AreBounded (n + 1) x.1.routers)
-unfolding applied book_step
-command_of_line n w line (c.Act act) h = by (outcome w line act) (act_of n w line act h)
+-- an act raises them by one at most
+pub bounded_on : (n : ℕ) (now : Moment) → AreBounded n now.world.routers → (line : ℕ) (act : Act) → IfSome (went now (outcome now.world line act)) (λ next. AreBounded (n + 1) next.world.routers)
+bounded_on n now h line act = by (went now (outcome now.world line act)) (act_bounded n now h line act)
   where
     most : n + weight act ≤ n + 1
     most = at (is_step act)
@@ -222,70 +146,14 @@ command_of_line n w line (c.Act act) h = by (outcome w line act) (act_of n w lin
         at true = omega arith
         at false = omega arith
 
-    by : (o : Outcome) → IfOk o (λ x. AreBounded (n + weight act) x.1.routers) → IfOk o (λ x. AreBounded (n + 1) x.1.routers)
-    by (Err e) k = tt
-    by (Ok x) k = later (n + weight act) (n + 1) x.1.routers most k
-command_of_line n w line (c.Run steps) h = by (nat_le (w.booked + steps) most_steps)
+    by : (o : Option Moment) → IfSome o (λ next. AreBounded (n + weight act) next.world.routers) → IfSome o (λ next. AreBounded (n + 1) next.world.routers)
+    by None k = tt
+    by (Some next) k = later (n + weight act) (n + 1) next.world.routers most k
+
+-- and a step doesn't
+pub bounded_by_step : (n : ℕ) (now : Moment) → AreBounded n now.world.routers → (line : ℕ) (act : Act) → is_step act ≡ true → IfSome (went now (outcome now.world line act)) (λ next. AreBounded n next.world.routers)
+bounded_by_step n now h line act step =
+    subst (λ m. IfSome (went now (outcome now.world line act)) (λ next. AreBounded m next.world.routers)) none (act_bounded n now h line act)
   where
-    end : (d : Done) → IfOk d (λ x. AreBounded n x.1.routers) → IfOk d (λ x. AreBounded (n + 1) x.1.routers)
-    end (Err e) k = tt
-    end (Ok x) k = later n (n + 1) x.1.routers (omega arith) k
-
-    by : (b : Bool) → IfOk (cond b (Ok (booking w steps)) (Err Limit) >>= run_done line steps) (λ x. AreBounded (n + 1) x.1.routers)
-    by true = end (run_done line steps (booking w steps)) (run_of n (booking w steps) line steps h)
-    by false = tt
-command_of_line n w line c.Fan h = end (fan_step w line) (fan_of n w line h)
-  where
-    end : (d : Done) → IfOk d (λ x. AreBounded n x.1.routers) → IfOk d (λ x. AreBounded (n + 1) x.1.routers)
-    end (Err e) k = tt
-    end (Ok x) k = later n (n + 1) x.1.routers (omega arith) k
-
--- ---- lines
-
-line_bounded : (r : Run) (line : List ℕ) → AreBounded r.number r.world.routers → AreBounded (on_line r line).number (on_line r line).world.routers
-line_bounded r line h = by (is_some r.refusal)
-  where
-    more : AreBounded (r.number + 1) r.world.routers
-    more = later r.number (r.number + 1) r.world.routers (omega arith) h
-
-    done : (d : Done) → IfOk d (λ x. AreBounded (r.number + 1) x.1.routers) → AreBounded (stepped r d).number (stepped r d).world.routers
-    done (Ok x) k = k
-    done (Err e) k = more
-
-    asked : (a : Result (Option Command) ScriptError) → AreBounded (commanded r a).number (commanded r a).world.routers
-    asked (Ok None) = more
-    asked (Ok (Some command)) = done (applied r.world (r.number + 1) command) (command_of_line r.number r.world (r.number + 1) command h)
-    asked (Err e) = more
-
-    by : (b : Bool) → AreBounded (cond b r (commanded r (command_of line))).number (cond b r (commanded r (command_of line))).world.routers
-    by true = h
-    by false = asked (command_of line)
-
-lines_from : (ls : List (List ℕ)) (r : Run) → AreBounded r.number r.world.routers → AreBounded (fold on_line r ls).number (fold on_line r ls).world.routers
-lines_from [] r h = h
-lines_from (l ∷ ls) r h = lines_from ls (on_line r l) (line_bounded r l h)
-
--- a line counts one at most
-one_line : (r : Run) (line : List ℕ) → (on_line r line).number ≤ r.number + 1
-one_line r line = by (is_some r.refusal)
-  where
-    done : (d : Done) → (stepped r d).number ≤ r.number + 1
-    done (Ok x) = omega arith
-    done (Err e) = omega arith
-
-    asked : (a : Result (Option Command) ScriptError) → (commanded r a).number ≤ r.number + 1
-    asked (Ok None) = omega arith
-    asked (Ok (Some command)) = done (applied r.world (r.number + 1) command)
-    asked (Err e) = omega arith
-
-    by : (b : Bool) → (cond b r (commanded r (command_of line))).number ≤ r.number + 1
-    by true = omega arith
-    by false = asked (command_of line)
-
-lines_count : (ls : List (List ℕ)) (r : Run) → (fold on_line r ls).number ≤ r.number + length ls
-lines_count [] r = omega arith
-lines_count (l ∷ ls) r = let ih = lines_count ls (on_line r l) in let one = one_line r l in omega (arith, ih, one)
-
--- behind some lines each own number is at most how many they are
-pub lines_bounded : (ls : List (List ℕ)) → AreBounded (length ls) (run_lines ls).world.routers
-lines_bounded ls = later (run_lines ls).number (length ls) (run_lines ls).world.routers (omega (arith, lines_count ls start)) (lines_from ls start (record { few = omega arith; each = λ x r found. absurd (cc) }))
+    none : n + weight act ≡ n
+    none = ap (λ t. n + cond t 0 1) step ∙ omega arith
