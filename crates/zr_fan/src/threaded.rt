@@ -30,6 +30,7 @@ impl Threaded {
     /// A gang of so many threads, and who is told as they take shares.
     pub fn new(threads: u32, watch: Box<dyn Watch + Sync + Drop>) -> Threaded
         requires { (1 ≤ threads) × (threads ≤ 16) }
+        ensures { result.threads ≡ threads }
     {
         Threaded { threads, watch }
     }
@@ -43,19 +44,24 @@ impl Gang for Threaded {
         turn: Turn,
         shares: Vec<Share>,
     ) -> Result<Vec<Share>, AllocError> {
-        let parts = split(alloc, shares, self.threads)?;
+        let parts = split(alloc, turn, shares, self.threads)?;
         run(rt, alloc, turn, &*self.watch, parts)
     }
 }
 
-// The parts of the workers, in order: each has as many shares as the others, or one less. The last has what is left.
-fn split(alloc: Global, shares: Vec<Share>, threads: u32) -> Result<Vec<Part>, AllocError>
+// The parts of the workers, in order: each has about as much to do as the others. The last has what is left.
+fn split(
+    alloc: Global,
+    turn: Turn,
+    shares: Vec<Share>,
+    threads: u32,
+) -> Result<Vec<Part>, AllocError>
     ensures { IfOk result (λ v. all_of v.items ≡ shares.items) }
 {
     let mut parts = Vec::new(alloc);
     let mut rest = shares;
     for worker in 1..threads {
-        let cut = rest.len().div_ceil((threads - worker + 1) as usize);
+        let cut = cut_at(&rest, turn, threads - worker + 1);
         let more = rest.split_off(cut)?;
         parts.push(Part {
             worker: worker - 1,
@@ -68,6 +74,37 @@ fn split(alloc: Global, shares: Vec<Share>, threads: u32) -> Result<Vec<Part>, A
         shares: rest,
     })?;
     Ok(parts)
+}
+
+// How many of these shares the next of so many workers has: as many as come nearest to its part of what is to be done, and at least one if there are any.
+fn cut_at(shares: &[Share], turn: Turn, workers: u32) -> usize
+    requires { 1 ≤ workers }
+    ensures { result ≤ length shares.now }
+{
+    let fair = load_of(shares, turn).div_ceil(u64::from(workers));
+    let mut sum: u64 = 0;
+    for (place, share) in shares.iter().enumerate() {
+        let more = sum.saturating_add(load(share, turn));
+        if more >= fair {
+            let is_nearer = place == 0 || more - fair <= fair.saturating_sub(sum);
+            return if is_nearer { place + 1 } else { place };
+        }
+        sum = more;
+    }
+    shares.len()
+}
+
+fn load_of(shares: &[Share], turn: Turn) -> u64 {
+    let mut sum: u64 = 0;
+    for share in shares {
+        sum = sum.saturating_add(load(share, turn));
+    }
+    sum
+}
+
+// How much a share has to do. One that has nothing to do takes its turn too.
+fn load(share: &Share, turn: Turn) -> u64 {
+    (share.load(turn) as u64).saturating_add(1)
 }
 
 // Each part on a thread of its own, and their shares again in order.

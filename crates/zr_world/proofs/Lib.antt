@@ -1,4 +1,3 @@
-pub mod Queued
 pub mod Events
 pub mod Searching
 pub mod Possible

@@ -32,10 +32,10 @@ use Rattle.zr_world_spec.proofs.Telling.{heard_is}
 use Rattle.zr_world_ends.specs.Steps.{Gives, from_wire, from_queue}
 use Rattle.zr_world.specs.Hearing.{IsHeard}
 use Rattle.zr_world.specs.Living.{lines_of}
-use Rattle.zr_world.specs.Spread.{all_queued_on}
+use Rattle.zr_world_ends.specs.Spread.{all_queued_on}
 use Rattle.zr_world.specs.Steps.{AppliesTo, Does}
 use Rattle.zr_world.proofs.Events.{unique_after}
-use Rattle.zr_world.proofs.Queued.{spread_is}
+use Rattle.zr_world_ends.proofs.Queued.{spread_is}
 
 -- ---- a router hears
 

@@ -10,7 +10,7 @@ use Rattle.std.specs.Cmp.Lexicographic.{slice_cmp}
 use Rattle.std.proofs.lemmas.Bool.{false≢true, true≢false, and_parts, and_from, eqb-true, eqb-false}
 use Rattle.zr_id.specs.Zid.{is_named}
 use Rattle.zr_graph.specs.Record.{has}
-use Rattle.zr_tree.specs.Walk.{Graph, IsWalk, walk_length}
+use Rattle.zr_tree.specs.Walk.{Graph, IsWalk}
 use Rattle.zr_tree.specs.Tree.{dist, reached}
 use Rattle.zr_tree.specs.Laws.{IsGraph}
 use Rattle.zr_tree.proofs.Paths.{exact, walk_back, walk_reaches}

@@ -4,6 +4,5 @@ pub mod Living
 pub mod Messages
 pub mod Search
 pub mod Show
-pub mod Spread
 pub mod State
 pub mod Steps

@@ -50,6 +50,21 @@ impl WorldRouter {
         })
     }
 
+    /// Its tables with what its clients were told, and what declarations and interests weigh.
+    pub fn into_parts(self) -> (Hub, u64)
+        ensures hub { result.0 ≡ hub_of self }
+        ensures weight { result.1 ≡ self.weight }
+    {
+        (self.hub, self.weight)
+    }
+
+    /// The router of these parts.
+    pub fn from_parts(hub: Hub, weight: u64) -> WorldRouter
+        ensures { result ≡ record { node = hub.node; told = hub.told; weight = weight } }
+    {
+        WorldRouter { hub, weight }
+    }
+
     /// Its tables, and what its clients were told.
     pub fn hub(&self) -> &Hub
         ensures { result.now ≡ hub_of self.now }

@@ -1,7 +1,7 @@
 //! What a router has sent comes into the queues at its ends.
 
 ghost use Rattle.std.specs.Prelude.{◌≡◌, OnOk};
-ghost use Rattle.zr_world.specs.Spread.{queued_on, all_queued_on};
+ghost use Rattle.zr_world_ends.specs.Spread.{queued_on, all_queued_on};
 
 use crate::router::WorldRouter;
 use std::alloc::AllocError;

@@ -114,16 +114,15 @@ impl World {
         }
     }
 
-    /// All samples under way go to their ends, and one line that tells their steps is appended. The gang is to handle the routers; so far each step is done
-    /// here, one after another.
+    /// All samples under way go to their ends, the routers being handled by a gang, and one line that tells their steps is appended.
     ///
     /// A refusal is the first that applies, and leaves the world as it was: `NotSettled`, `NotSamples` where not only samples are under way, and `Limit`
     /// where they are too many or too long. After `NoMemory` the world is spent, and answers `NoMemory` from then on.
     pub fn fan<R: Threads + Sync, G: Gang>(
         &mut self,
         line: u64,
-        _rt: &R,
-        _gang: &mut G,
+        rt: &R,
+        gang: &mut G,
         report: &mut Vec<ReportLine>,
     ) -> Result<(), ScriptError>
         ensures applies { self.old.spent ≡ false → Applies result (fan_step self.old.state line) self.old self.new report.old.items report.new.items }
@@ -133,7 +132,7 @@ impl World {
         if self.spent {
             return Err(ScriptError::NoMemory);
         }
-        match self.tables.fan(line, report) {
+        match self.tables.fan(line, rt, gang, report) {
             Ok(()) => Ok(()),
             Err(ScriptError::NoMemory) => {
                 self.spent = true;

@@ -2,7 +2,8 @@
 
 ghost use Rattle.std.specs.Prelude.{◌≡◌, ◌∷◌, ◌+◌, ◌-◌, ◌^◌, [], not, min, length, IfNone, IfSome, OnOk, OnErr};
 ghost use Rattle.std.specs.List.{list_all, sum_by};
-ghost use Rattle.zr_world_spec.specs.World.{new_end, sent, queued, with_wire, with_queue, broken, lifted, lowered, is_empty, unsettles, is_calm, is_calm_end};
+ghost use Rattle.zr_law_fan.specs.Samples.{bare};
+ghost use Rattle.zr_world_spec.specs.World.{new_end, sent, queued, with_wire, with_queue, broken, lifted, lowered, is_empty, is_idle, unsettles, is_calm, is_calm_end};
 ghost use Rattle.zr_world_spec.specs.Fan.{is_sample, sample_bytes, waiting_at};
 ghost use Rattle.zr_world_spec.specs.Next.{can_handle, can_take};
 ghost use Rattle.zr_world_ends.specs.Steps.{returned};
@@ -118,6 +119,34 @@ impl WorldEnd {
         sample_bytes(&self.wire).saturating_add(sample_bytes(&self.queue))
     }
 
+    /// Whether nothing waits here.
+    pub fn is_idle(&self) -> bool
+        ensures { result ≡ is_idle self.now }
+    {
+        !are_waiting(&self.wire) && !are_waiting(&self.queue)
+    }
+
+    /// The same end, at which nothing waits.
+    pub fn idle(&self, alloc: Global) -> WorldEnd
+        ensures { result ≡ bare self.now }
+    {
+        WorldEnd {
+            up: self.up,
+            unbroken: self.unbroken,
+            queue: VecDeque::new(alloc),
+            wire: VecDeque::new(alloc),
+            weight: self.weight,
+        }
+    }
+
+    /// What waits on the wire, and in the queue.
+    pub fn into_waiting(self) -> (VecDeque<Tagged>, VecDeque<Tagged>)
+        ensures wire { result.0.items ≡ self.wire }
+        ensures queue { result.1.items ≡ self.queue }
+    {
+        (self.wire, self.queue)
+    }
+
     /// Whether nothing under way here unsettles.
     pub fn is_calm(&self) -> bool
         ensures { result ≡ is_calm_end self.now }
@@ -213,7 +242,8 @@ fn are_samples(waiting: &VecDeque<Tagged>) -> bool
     waiting.iter().all(|x| is_sample(&x.msg))
 }
 
-fn is_sample(msg: &Msg) -> bool
+/// Whether a message is a sample.
+pub fn is_sample(msg: &Msg) -> bool
     ensures { result ≡ is_sample msg.now }
 {
     match msg {

@@ -1,8 +1,9 @@
 //! The ends of a world's links, and at which of them a step is possible.
 
-ghost use Rattle.std.specs.Prelude.{◌≡◌, ◌∷◌, [], true, OnOk};
+ghost use Rattle.std.specs.Prelude.{◌≡◌, ◌∷◌, [], true, IfOk, OnOk};
 ghost use Rattle.std.specs.Option.{option_copied};
 ghost use Rattle.zr_world_spec.specs.World.{end_of, put_end, changed, is_idle, sent, queued, broken, lifted, lowered};
+ghost use Rattle.zr_law_fan.specs.Samples.{emptied};
 ghost use Rattle.zr_world_spec.specs.Next.{first_where, can_handle, can_take};
 ghost use Rattle.zr_world_ends.specs.Steps.{Gives, changed_at, returned, from_wire, from_queue};
 
@@ -54,6 +55,18 @@ impl Ends {
         ensures { result.now ≡ self.now }
     {
         &self.list
+    }
+
+    /// All ends as they are; behind this nothing waits at any.
+    pub fn take_all(&mut self, alloc: Global) -> Result<Vec<NamedEnd>, AllocError>
+        ensures { IfOk result (λ v. (v.items ≡ self.old) × (self.new ≡ emptied self.old)) }
+    {
+        waiting::take_all(
+            alloc,
+            &mut self.list,
+            &mut self.to_handle,
+            &mut self.to_take,
+        )
     }
 
     /// The end of a router to a neighbour.

@@ -1,10 +1,11 @@
 //! What each change of an end does to the ends, and to the marks of the ends at which a step is possible.
 
-ghost use Rattle.std.specs.Prelude.{◌≡◌, ◌∷◌, [], ◌*◌, ◌<◌, ◌≤◌, ◌==◌, cond, false, ℕ, List, length, OnOk};
+ghost use Rattle.std.specs.Prelude.{◌≡◌, ◌∷◌, [], ◌*◌, ◌<◌, ◌≤◌, ◌==◌, cond, false, ℕ, List, length, IfOk, OnOk};
 ghost use Rattle.std.specs.List.{insert};
 ghost use Rattle.std.specs.List.Sorted.{IsStrictlySortedBy};
 ghost use Rattle.std.specs.Map.{keys_of};
 ghost use Rattle.zr_world_spec.specs.World.{end_cmp, end_of, changed, sent, queued, broken, lifted, lowered, put_end};
+ghost use Rattle.zr_law_fan.specs.Samples.{emptied};
 ghost use Rattle.zr_world_spec.specs.Next.{can_handle, can_take};
 ghost use Rattle.zr_world_ends.specs.Index.{IsIndexed, IsThere, has_mark};
 ghost use Rattle.zr_world_ends.specs.Steps.{Gives, changed_at, returned, from_wire, from_queue};
@@ -12,7 +13,8 @@ ghost use Rattle.zr_world_ends.specs.Steps.{Gives, changed_at, returned, from_wi
 use crate::end::{Tagged, WorldEnd};
 use crate::marks::{make_room, set};
 use crate::places::{NamedEnd, find, place_of};
-use std::alloc::AllocError;
+use std::alloc::{AllocError, Global};
+use std::mem;
 use zr_id::zid::Zid;
 use zr_msg::msg::Msg;
 use zr_script_spec::error::ScriptError;
@@ -211,6 +213,34 @@ pub fn put(
         }
         Err(place) => insert(ends, to_handle, to_take, place, (at, new)),
     }
+}
+
+/// All ends as they are; behind this nothing waits at any.
+pub fn take_all(
+    alloc: Global,
+    ends: &mut Vec<NamedEnd>,
+    to_handle: &mut [u64],
+    to_take: &mut [u64],
+) -> Result<Vec<NamedEnd>, AllocError>
+    requires index { IsIndexed ends.old.items to_handle.old to_take.old }
+    ensures taken { IfOk result (λ v. v.items ≡ ends.old.items) }
+    ensures idle { IfOk result (λ v. ends.new.items ≡ emptied ends.old.items) }
+    ensures index { IsIndexed ends.new.items to_handle.new to_take.new }
+{
+    let idle = idle_ends(alloc, ends)?;
+    mark_all(&idle, to_handle, to_take);
+    Ok(mem::replace(ends, idle))
+}
+
+// The same ends, at which nothing waits.
+fn idle_ends(alloc: Global, ends: &[NamedEnd]) -> Result<Vec<NamedEnd>, AllocError>
+    ensures { IfOk result (λ v. v.items ≡ emptied ends.now) }
+{
+    let mut idle = Vec::new(alloc);
+    for named in ends {
+        idle.push((named.0, named.1.idle(alloc)))?;
+    }
+    Ok(idle)
 }
 
 // Another end takes the place of one.

@@ -6,16 +6,18 @@ ghost use Rattle.zr_orders.specs.Ranked.{ranked};
 
 use std::alloc::{AllocError, Global};
 
-/// Lines in the order of their bytes, one behind another.
-pub fn joined(alloc: Global, lines: Vec<Vec<u8>>) -> Result<Vec<u8>, AllocError>
-    ensures { IfOk result (λ v. v.items ≡ concat (ranked (map (λ l. l.items) lines.items))) }
+/// Lines in the order of their bytes.
+#[tactic(auto, using(crate::proofs::Texts::texts_ranked))]
+pub fn in_order(lines: Vec<Vec<u8>>) -> Result<Vec<Vec<u8>>, AllocError>
+    ensures { IfOk result (λ v. map (λ l. l.items) v.items ≡ ranked (map (λ l. l.items) lines.items)) }
 {
     let mut lines = lines;
     lines.sort()?;
-    join(alloc, &lines)
+    Ok(lines)
 }
 
-fn join(alloc: Global, lines: &[Vec<u8>]) -> Result<Vec<u8>, AllocError>
+/// Lines one behind another.
+pub fn join(alloc: Global, lines: &[Vec<u8>]) -> Result<Vec<u8>, AllocError>
     ensures { IfOk result (λ v. v.items ≡ concat (map (λ l. l.items) lines.now)) }
 {
     let mut text = Vec::new(alloc);

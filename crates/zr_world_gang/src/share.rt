@@ -1,6 +1,6 @@
 //! `Share`: one router's part of a fan.
 
-ghost use Rattle.std.specs.Prelude.{◌≡◌, ◌∷◌, ◌++◌, [], List, true, Some, IfOk, OnOk, map, if◌then◌else◌};
+ghost use Rattle.std.specs.Prelude.{◌≡◌, ◌==◌, ◌&&◌, ◌∷◌, ◌++◌, [], List, true, Some, IfOk, OnOk, length, map, if◌then◌else◌};
 ghost use Rattle.std.specs.Option.{option_map};
 ghost use Rattle.zr_node_spec.specs.Event.{MayCome};
 ghost use Rattle.zr_node_spec.specs.Tables.{is_router, link_at, link_to};
@@ -8,10 +8,10 @@ ghost use Rattle.zr_script_spec.specs.Report.{line_text};
 ghost use Rattle.zr_msg.specs.declared.peer.LinkPeer.{LinkPeer};
 ghost use Rattle.zr_told_spec.specs.Hub.{HubSends, hub_after};
 ghost use Rattle.zr_world_spec.specs.Fan.{is_sample};
-ghost use Rattle.zr_world_gang.specs.Shares.{HasHandled, all_over, heard, new_share, MayBeHandled, over, to_client, to_router, told, with_input, with_output};
+ghost use Rattle.zr_world_gang.specs.Shares.{HasHandled, all_over, heard, is_behind, last_behind, new_share, MayBeHandled, over, to_client, to_router, told, with_input, with_output};
 ghost use Rattle.zr_world_gang.specs.Turns.{HasDone};
 
-use crate::lines::joined;
+use crate::lines::{in_order, join};
 use crate::message::{Sending, Waiting};
 use std::alloc::{AllocError, Global};
 use std::marker::Model;
@@ -44,6 +44,8 @@ pub struct Share {
     handled: Vec<Vec<u8>>,
     taken: Vec<Vec<u8>>,
     sent: Vec<Vec<u8>>,
+    // those that are told, in order, one behind another, and how many were of each kind
+    lines: Vec<Vec<u8>>,
     text: Vec<u8>,
     kinds: FanSteps,
 }
@@ -54,7 +56,7 @@ impl Model for Share {
 
     ghost Value = { ShareState };
 
-    ghost view = { λ s. record { name = s.name; hub = s.hub; input = s.input.items; output = s.output.items; handled = map (λ v. v.items) s.handled.items; taken = map (λ v. v.items) s.taken.items; sent = map (λ v. v.items) s.sent.items; text = s.text.items; kinds = s.kinds } };
+    ghost view = { λ s. record { name = s.name; hub = s.hub; input = s.input.items; output = s.output.items; handled = map (λ v. v.items) s.handled.items; taken = map (λ v. v.items) s.taken.items; sent = map (λ v. v.items) s.sent.items; lines = map (λ v. v.items) s.lines.items; text = s.text.items; kinds = s.kinds } };
 
     ghost invariant = { λ s. MayBeHandled s.hub s.input.items };
 }
@@ -72,6 +74,7 @@ impl Share {
             handled: Vec::new(alloc),
             taken: Vec::new(alloc),
             sent: Vec::new(alloc),
+            lines: Vec::new(alloc),
             text: Vec::new(alloc),
             kinds: FanSteps {
                 handled: 0,
@@ -95,11 +98,50 @@ impl Share {
         &self.text
     }
 
+    /// Whether the first line that it has told is not below a text; so it is where there is none.
+    pub fn is_behind(&self, last: &[u8]) -> bool
+        ensures { result ≡ is_behind last.now self.now.lines }
+    {
+        match self.lines.first() {
+            Some(line) => !line.as_slice().cmp(&last).is_lt(),
+            None => true,
+        }
+    }
+
+    /// The last line that it has told, or the text before its lines where there is none.
+    pub fn last_line<'a>(&'a self, last: &'a [u8]) -> &'a [u8]
+        ensures { result.now ≡ last_behind last.now self.now.lines }
+    {
+        match self.lines.last() {
+            Some(line) => line.as_slice(),
+            None => last,
+        }
+    }
+
     /// How many steps were of each kind, once they are told.
     pub fn kinds(&self) -> FanSteps
         ensures { result ≡ self.now.kinds }
     {
         self.kinds
+    }
+
+    /// How many lines of each kind it has, which are not told yet.
+    pub fn steps(&self) -> FanSteps
+        ensures { result ≡ record { handled = length self.now.handled; taken = length self.now.taken; sent = length self.now.sent } }
+    {
+        FanSteps {
+            handled: self.handled.len() as u64,
+            taken: self.taken.len() as u64,
+            sent: self.sent.len() as u64,
+        }
+    }
+
+    /// How much it has to do in a turn.
+    pub fn load(&self, turn: Turn) -> usize {
+        match turn {
+            Turn::Handle => self.input.len(),
+            Turn::Tell => self.sent.len(),
+        }
     }
 
     /// The router with its clients.
@@ -111,9 +153,10 @@ impl Share {
 
     /// Whether nothing waits.
     pub fn is_idle(&self) -> bool
-        ensures { result ≡ true → self.now.input ≡ [] }
+        ensures idle { result ≡ (length self.now.input == 0 && length self.now.output == 0) }
+        ensures may { MayBeHandled self.now.hub self.now.input }
     {
-        self.input.is_empty()
+        self.input.is_empty() && self.output.is_empty()
     }
 
     /// A sample from a neighbour waits, behind all others. Out of memory too where there is no link to the neighbour.
@@ -273,7 +316,9 @@ impl Share {
         let mut lines = mem::replace(&mut self.handled, Vec::new(alloc));
         lines.append(&mut self.taken)?;
         lines.append(&mut self.sent)?;
-        self.text = joined(alloc, lines)?;
+        let lines = in_order(lines)?;
+        self.text = join(alloc, &lines)?;
+        self.lines = lines;
         Ok(())
     }
 }

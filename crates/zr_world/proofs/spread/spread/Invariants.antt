@@ -1,7 +1,7 @@
 -- What is left to queue leads to the same ends as all of it.
 use Rattle.std.proofs.Common.{◌≡◌}
 use Rattle.std.specs.Vec.Iter.{drain_items}
-use Rattle.zr_world.specs.Spread.{all_queued_on}
+use Rattle.zr_world_ends.specs.Spread.{all_queued_on}
 use Rattle.zr_world.proofs.spread.spread.Given as goal
 
 abbrev pub invariant-loop-link : goal.invariant-loop-link

@@ -13,7 +13,7 @@ use Rattle.zr_world_spec.specs.World.{EndState, Ends, router_of, is_taken, most_
 use Rattle.zr_world_spec.specs.Acts.{up_event}
 use Rattle.zr_world_spec.proofs.Ends.{sorted_put_end}
 use Rattle.zr_world.specs.Hearing.{IsHeard}
-use Rattle.zr_world.specs.Spread.{all_queued_on}
+use Rattle.zr_world_ends.specs.Spread.{all_queued_on}
 use Rattle.zr_world.specs.State.{state_of}
 use Rattle.zr_world.proofs.Events.{fresh_client}
 use Rattle.zr_world.proofs.Moving.{hears_is, client_by}

@@ -14,7 +14,7 @@ use Rattle.zr_world_spec.specs.World.{Tagged, WorldState, router_of, is_taken, w
 use Rattle.zr_world_spec.specs.Acts.{handle_step}
 use Rattle.zr_world_ends.specs.Steps.{from_wire}
 use Rattle.zr_world.specs.Hearing.{IsHeard, IsHandled}
-use Rattle.zr_world.specs.Spread.{all_queued_on}
+use Rattle.zr_world_ends.specs.Spread.{all_queued_on}
 use Rattle.zr_world.specs.Living.{lines_of}
 use Rattle.zr_world.specs.State.{state_of}
 use Rattle.zr_world.proofs.Events.{has_link, known, down_there, link_found, no_link_found}

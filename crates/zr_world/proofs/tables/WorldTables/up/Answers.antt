@@ -9,7 +9,7 @@ use Rattle.zr_world_spec.specs.World.{Ends, router_of, is_taken, end_of, with_en
 use Rattle.zr_world_spec.specs.Acts.{up_event, peer_of}
 use Rattle.zr_world_ends.specs.Steps.{changed_at}
 use Rattle.zr_world.specs.Hearing.{IsHeard}
-use Rattle.zr_world.specs.Spread.{all_queued_on}
+use Rattle.zr_world_ends.specs.Spread.{all_queued_on}
 use Rattle.zr_world.specs.State.{state_of}
 use Rattle.zr_world.proofs.Events.{fresh}
 use Rattle.zr_world.proofs.Moving.{hears_is, up_by, ordered_with}

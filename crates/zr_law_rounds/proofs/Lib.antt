@@ -1,0 +1,9 @@
+pub mod Going
+pub mod Spreading
+pub mod Open
+pub mod Over
+pub mod Shares
+pub mod Beginning
+pub mod Telling
+pub mod Ordered
+pub mod Parts
