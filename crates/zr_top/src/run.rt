@@ -22,7 +22,9 @@ ghost use Rattle.zr_law_keys.specs.Laws.{MatchingIsOfCharacters, MeetingIsOfChar
 ghost use Rattle.zr_law_names.specs.Alike.{StepsAreAlike};
 ghost use Rattle.zr_law_names.specs.Names.{NamesChangeNothing};
 ghost use Rattle.zr_law_names.specs.Trees.{TreesChangeNothing};
+ghost use Rattle.zr_law_numbers.specs.Calls.{NoEventOfAnyWorldIsRefused, NoEventWithinAFanIsRefused};
 ghost use Rattle.zr_law_numbers.specs.Numbers.{NumbersAlwaysHold};
+ghost use Rattle.zr_law_numbers.specs.Taken.{AlwaysTaken};
 ghost use Rattle.zr_law_joined.specs.Laws.{RunsSettleAsWorlds, SettledRunsHavePhases};
 ghost use Rattle.zr_law_running.specs.Laws.{RunsAreOfAWorld};
 ghost use Rattle.zr_law_settled.specs.Events.{NoEventIsRefused};
@@ -56,7 +58,10 @@ use zr_law_histories::{queues_are_packed, replayed_maps_are_heard, running_route
 use zr_law_joined::{runs_settle_as_worlds, settled_runs_have_phases};
 use zr_law_keys::{matching_is_of_characters, meeting_is_of_characters};
 use zr_law_names::{names_change_nothing, steps_are_alike, trees_change_nothing};
-use zr_law_numbers::{no_event_is_refused, numbers_always_hold};
+use zr_law_numbers::{
+    always_taken, no_event_is_refused, no_event_of_any_world_is_refused,
+    no_event_within_a_fan_is_refused, numbers_always_hold,
+};
 use zr_law_replies::{answers_always_hold, lines_refine, phases_refine};
 use zr_law_running::runs_are_of_a_world;
 use zr_law_samples::keys::{
@@ -107,7 +112,8 @@ use zr_tree::laws::{distances_are_of_shortest_walks, records_make_graphs};
 /// which the network is settled, each router sees exactly the links that are up at both ends, as far as it reaches, whatever links came,
 /// broke and went before. Beside it stand some that hold of all scripts. Where a network is settled each router knows the whole log of each router that
 /// it reaches (`logs`), so just what the clients attached there have declared (`sets`); its own rows are what its clients have declared, key and kind
-/// (`rows`); no router refuses an event that may come to it (`taken`); and at each moment both ends of a link agree on each number of a request (`numbers`):
+/// (`rows`); no router refuses an event that may come to it (`taken`), behind any lines, at any moment to which accepted acts lead, also between two steps of
+/// a run, or in any world to which calls lead, also within a fan; and at each moment both ends of a link agree on each number of a request (`numbers`):
 /// it is free, or asked, or kept with some replies on their way back, or ended with the final behind them; and each reply and each final that a client was sent
 /// is that of its query of that turn (`answers`). At each moment, and after each legal history of a router that runs, a router keeps of each client that it
 /// has a link to just what the messages leave that it has put there (`maps`).
@@ -161,7 +167,7 @@ where
     ensures known { SettledLogsAreKnown }
     ensures rows { SettledRowsAreDeclared }
     ensures sets { SettledSetsAreDeclared }
-    ensures taken { NoEventIsRefused }
+    ensures taken { NoEventIsRefused × AlwaysTaken × NoEventOfAnyWorldIsRefused × NoEventWithinAFanIsRefused }
     ensures numbers { NumbersAlwaysHold }
     ensures answers { AnswersAlwaysHold }
     ensures maps { ToldMapsAreHeard × ReplayedMapsAreHeard }
@@ -223,6 +229,9 @@ where
     settled_rows_are_declared();
     settled_sets_are_declared();
     no_event_is_refused();
+    always_taken();
+    no_event_of_any_world_is_refused();
+    no_event_within_a_fan_is_refused();
     numbers_always_hold();
     runs_are_of_a_world();
     running_routers_are_a_world();
