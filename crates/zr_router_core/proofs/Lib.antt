@@ -8,3 +8,4 @@ pub mod Few
 pub mod Bounds
 pub mod Joined
 pub mod Calm
+pub mod Crossing
