@@ -18,47 +18,101 @@ use Rattle.zr_router.specs.contracts.tables.Tables.{the_row as tables, the_type 
 
 pub tables_send : (B : RattleType) (g : Ghosts B.Denot) → IsSend B → IsSend (tables B g)
 tables_send B g b =
-  let all : AllSend (declared.shape (tables_type B g)).fields = (search (zid_send, sendable) depth 60 fits 20000,
-    (search (policy_send, policy_sync, shared_send, crosses, sendable) depth 60 fits 20000,
-    (search (hub_send, sendable),
-    (search (sender_send, crosses, sendable) depth 60 fits 20000,
-    (search (kept_send, crosses, sendable) depth 60 fits 20000,
-    (search (sendable),
-    (search (sendable),
-    (search (sendable),
-    (search (sendable),
-    (search (crosses, sendable) depth 60 fits 20000,
-    (search (sendable),
-    (search (sendable),
-    (search (sendable),
-    (search (sendable),
-    (search (sendable),
-    tt))))))))))))))) in
-  let T = tables_type B g in
-  recorded_send (Struct (declared.shape T)) T.D T.to T.to_one (struct_send (declared.shape T) all)
+    let all : AllSend (declared.shape (tables_type B g)).fields = (
+      search (zid_send, sendable) depth 60 fits 20000,
+      (
+        search (policy_send, policy_sync, shared_send, crosses, sendable) depth 60 fits 20000,
+        (
+          search (hub_send, sendable),
+          (
+            search (sender_send, crosses, sendable) depth 60 fits 20000,
+            (
+              search (kept_send, crosses, sendable) depth 60 fits 20000,
+              (
+                search (sendable),
+                (
+                  search (sendable),
+                  (
+                    search (sendable),
+                    (
+                      search (sendable),
+                      (
+                        search (crosses, sendable) depth 60 fits 20000,
+                        (
+                          search (sendable),
+                          (
+                            search (sendable),
+                            (
+                              search (sendable),
+                              (
+                                search (sendable),
+                                (
+                                  search (sendable),
+                                  tt,
+                                ),
+                              ),
+                            ),
+                          ),
+                        ),
+                      ),
+                    ),
+                  ),
+                ),
+              ),
+            ),
+          ),
+        ),
+      ),
+    ) in
+    let T = tables_type B g in
+    recorded_send (Struct (declared.shape T)) T.D T.to T.to_one (struct_send (declared.shape T) all)
 
 pub router_send : (B R : RattleType) (g : Ghosts B.Denot) → IsSend B → IsSend R → IsSend (router B R g)
 router_send B R g b r =
-  let t = tables_send B g b in
-  let T = router_type B R g in
-  let all : AllSend (declared.shape T).fields = (search (r, sendable),
-    (search (crosses, sendable),
-    (search (history_send, entry_send, crosses, sendable) depth 60 fits 20000,
-    (search (t, crosses, sendable),
-    (search (crosses, sendable),
-    (search (sendable),
-    tt)))))) in
-  recorded_send (Struct (declared.shape T)) T.D T.to T.to_one (struct_send (declared.shape T) all)
+    let t = tables_send B g b in
+    let T = router_type B R g in
+    let all : AllSend (declared.shape T).fields = (
+      search (r, sendable),
+      (
+        search (crosses, sendable),
+        (
+          search (history_send, entry_send, crosses, sendable) depth 60 fits 20000,
+          (
+            search (t, crosses, sendable),
+            (
+              search (crosses, sendable),
+              (
+                search (sendable),
+                tt,
+              ),
+            ),
+          ),
+        ),
+      ),
+    ) in
+    recorded_send (Struct (declared.shape T)) T.D T.to T.to_one (struct_send (declared.shape T) all)
 
 pub router_sync : (B R : RattleType) (g : Ghosts B.Denot) → IsSend B → IsSync R → IsSync (router B R g)
 router_sync B R g b r =
-  let t = tables_send B g b in
-  let T = router_type B R g in
-  let all : AllSync (declared.shape T).fields = (search (r, sendable),
-    (search (crosses, sendable),
-    (search (history_sync, entry_send, crosses, sendable) depth 60 fits 20000,
-    (search (t, crosses, sendable),
-    (search (crosses, sendable),
-    (search (sendable),
-    tt)))))) in
-  recorded_sync (Struct (declared.shape T)) T.D T.to T.to_one (struct_sync (declared.shape T) all)
+    let t = tables_send B g b in
+    let T = router_type B R g in
+    let all : AllSync (declared.shape T).fields = (
+      search (r, sendable),
+      (
+        search (crosses, sendable),
+        (
+          search (history_sync, entry_send, crosses, sendable) depth 60 fits 20000,
+          (
+            search (t, crosses, sendable),
+            (
+              search (crosses, sendable),
+              (
+                search (sendable),
+                tt,
+              ),
+            ),
+          ),
+        ),
+      ),
+    ) in
+    recorded_sync (Struct (declared.shape T)) T.D T.to T.to_one (struct_sync (declared.shape T) all)
