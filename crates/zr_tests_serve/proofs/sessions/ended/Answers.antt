@@ -1,0 +1,10 @@
+use denote.Exit.{no}
+use denote.Param.Send.{arg_send, arg_sync, param_send, param_sync}
+use Rattle.zr_serve_router.proofs.Crossing.{router_send, router_sync}
+use Rattle.zr_tests_serve.proofs.sessions.ended.Goals as goal
+
+pub run-end-requires-send-P : goal.run-end-requires-send-P
+run-end-requires-send-P g c κs within = param_send _ _ (arg_send _ no _ (router_send _ _ g.B.Naming c.type_bounds.send-B c.type_bounds.send-R))
+
+pub run-end-requires-sync-P : goal.run-end-requires-sync-P
+run-end-requires-sync-P g c κs within = param_sync _ _ (arg_sync _ no _ (router_sync _ _ g.B.Naming c.type_bounds.send-B c.type_bounds.sync-R))
