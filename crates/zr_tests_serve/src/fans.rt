@@ -49,12 +49,12 @@ static SIDES: [Side; 2] = [
 
 /// What each share is behind each round: how many messages its router has handled, how many went to the other router and how many to its client, whether it
 /// is idle, and the lines of these steps in the order of their bytes. Then come the samples for the other router, in the order in which they were sent.
-static TOLD: &str = "01: 2 2 0 true
+static TOLD: &str = "01: 2 2 0 false
 01 < c1: put - a x #12
 01 < c1: put - a y #11
 01 > 02: put 01 a x #12
 01 > 02: put 01 a y #11
-02: 1 1 0 true
+02: 1 1 0 false
 02 < c2: put - b z #13
 02 > 01: put 02 b z #13
 01 to 02 #11
