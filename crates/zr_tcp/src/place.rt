@@ -123,6 +123,11 @@ impl Place {
         self.has_opened.store(true, Ordering::SeqCst);
     }
 
+    /// Whether a session has opened on the stream.
+    pub(crate) fn has_opened(&self) -> bool {
+        self.has_opened.load(Ordering::SeqCst)
+    }
+
     /// Whether the stream is to end, as another one has its place.
     pub(crate) fn gives_way(&self) -> bool {
         self.gives_way.load(Ordering::SeqCst)
@@ -150,6 +155,6 @@ impl Place {
     }
 
     fn is_late(&self, now: u64) -> bool {
-        !self.has_opened.load(Ordering::SeqCst) && now.saturating_sub(self.came) >= MOST_UNOPENED_MS
+        !self.has_opened() && now.saturating_sub(self.came) >= MOST_UNOPENED_MS
     }
 }

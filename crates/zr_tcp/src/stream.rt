@@ -14,8 +14,11 @@ use std::time::{Clock, Duration};
 use zr_outside::sink::{Put, Sink};
 use zr_outside::source::{Got, Source};
 
-/// How long a read waits for bytes before it is quiet.
+/// How long a read waits for bytes before it is quiet, until a session has opened: the stream may have to give way.
 const QUIET_MS: u64 = 100;
+
+/// How long it waits then, where only the peer's lease runs.
+const OPEN_QUIET_MS: u64 = 1_000;
 
 /// How long a write waits for a peer that reads nothing before it fails: the lease that this router tells.
 const MOST_WRITE_S: u64 = 10;
@@ -30,6 +33,7 @@ const WRITES_TO_OPEN: u32 = 2;
 pub struct TcpSource {
     stream: TcpStream,
     place: Arc<Place>,
+    is_patient: bool,
     reads: u64,
     faults: u64,
     quiets: u64,
@@ -65,6 +69,7 @@ pub(crate) fn ends_of<R: Clock + Copy + Drop>(
     let source = TcpSource {
         stream,
         place: read,
+        is_patient: false,
         reads: 0,
         faults: 0,
         quiets: 0,
@@ -86,6 +91,18 @@ impl TcpSource {
     /// The address of the peer, where the system tells it.
     pub(crate) fn peer(&self) -> Option<SocketAddr> {
         self.stream.peer_addr().ok()
+    }
+
+    // Once a session has opened a read waits longer. Where the system doesn't let it, it goes on as before.
+    fn be_patient(&mut self)
+        ensures { (self.new.reads ≡ self.old.reads) × (self.new.faults ≡ self.old.faults) × (self.new.quiets ≡ self.old.quiets) × (self.new.ends ≡ self.old.ends) }
+    {
+        if !self.is_patient && self.place.has_opened() {
+            self.is_patient = true;
+            let _ = self
+                .stream
+                .set_read_timeout(Some(Duration::from_millis(OPEN_QUIET_MS)));
+        }
     }
 
     // So many bytes were read: a router that was dialled may refuse this one by them.
@@ -114,6 +131,7 @@ impl Drop for TcpSource {
         let TcpSource {
             stream: _,
             place,
+            is_patient: _,
             reads: _,
             faults: _,
             quiets: _,
@@ -163,6 +181,7 @@ impl Source for TcpSource {
             self.ends = self.ends.saturating_add(1);
             return Got::End;
         }
+        self.be_patient();
         match self.stream.read(into) {
             Ok(0) => {
                 self.ends = self.ends.saturating_add(1);
