@@ -315,6 +315,19 @@ def crowded_across():
         must([count >= EVENTS * CROWDED for count in counts], [True, True], f"{counts} samples in {CROWDED} s are as many as must come")
 
 
+def crowded_along():
+    """A flood that may not be dropped goes over a second router and a narrow link behind it: that link stays up, and brings 1,000 samples a second at least."""
+    with Router("01") as first, Router("02", first) as second, throttled(second) as port, Router("03", port) as third:
+        subscriber, counts = third.client(lease=60), [0]
+        subscriber.subscribe("crowd")
+        settle_across(subscriber, first)
+        with publishing(first, "crowd", b"." * 100, CROWDED):
+            count_until(counts, 0, subscriber, CROWDED)
+        print(f"... {counts[0] / CROWDED:.0f} samples a second", flush=True)
+        must(counts[0] >= EVENTS * CROWDED, True, f"{counts[0]} samples in {CROWDED} s are as many as must come")
+        must(takes(second, "03"), False, "the narrow link has gone")
+
+
 def count_until(counts, place, session, seconds):
     end = time.monotonic() + seconds
     while time.monotonic() < end:
