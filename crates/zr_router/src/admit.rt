@@ -15,10 +15,11 @@ use zr_msg::shared::Shared;
 use zr_port::{DeliverError, DownError, UpError};
 use zr_router_core::hub::Hub;
 use zr_router_queue::Closing;
+use zr_router_room::MOST_LINKS;
 use zr_wire::admits;
 
 /// How many sessions a router has at most. The numbers of its links are below that, so each has a bit among those of the writers that are to be woken.
-pub(crate) const MOST_SESSIONS: u32 = 128;
+pub(crate) const MOST_SESSIONS: u32 = MOST_LINKS;
 
 /// How many sessions to routers a router has at most.
 const MOST_ROUTERS: u32 = 16;

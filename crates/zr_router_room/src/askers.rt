@@ -1,13 +1,11 @@
 //! Whose queries were handed to whom, noted beside a router's tables: it helps to guess for whom a reply is.
 
+use crate::links::{MOST_LINKS, bit_of};
 use std::alloc::{AllocError, Global};
 use zr_body::latest;
 use zr_id::link::LinkNo;
 use zr_msg::event::Event;
 use zr_msg::msg::Msg;
-
-/// How many links there are at most, a bit for each.
-const MOST_LINKS: u32 = u128::BITS;
 
 /// Of each link: the links whose queries it was handed since they had none that pend, and how many of its own pend.
 #[derive(Drop)]
@@ -118,14 +116,5 @@ impl Askers {
         for askers in self.handed.as_mut_slice() {
             *askers &= others;
         }
-    }
-}
-
-/// The bit of a link among 128, and none of one with a greater number.
-pub fn bit_of(link: LinkNo) -> u128 {
-    if link.0 < MOST_LINKS {
-        1 << link.0
-    } else {
-        0 // no link of such a number comes up
     }
 }

@@ -1,6 +1,6 @@
 //! How crowded rings are, as far as an event that comes asks.
 
-use crate::askers::bit_of;
+use crate::links::bit_of;
 use zr_id::link::LinkNo;
 
 /// What an event that comes is to wait for.

@@ -4,10 +4,12 @@
 
 mod askers;
 mod crowds;
+mod links;
 mod patience;
 mod reach;
 
-pub use askers::{Askers, bit_of};
+pub use askers::Askers;
 pub use crowds::{Crowds, Outlook};
+pub use links::{MOST_LINKS, bit_of};
 pub use patience::{Pace, Patience};
 pub use reach::{Coming, View};

@@ -1,6 +1,7 @@
 //! Whom an event that comes may reach: a guess by what a router shows.
 
-use crate::askers::{Askers, bit_of};
+use crate::askers::Askers;
+use crate::links::bit_of;
 use zr_id::link::LinkNo;
 use zr_key::key::KeyExpr;
 use zr_local::row::{Key, place_of};
