@@ -163,8 +163,8 @@ module _ (H K : Bool → Type 0) (so : (b : Bool) → H b → K b) where
       first = moment calls told faults o.err (first_links id policy log s.words)
 
       by : (Drew s.words left left' × Passes end admin Opened Refused H id address ds first calls' told' faults' o p)
-          ⊎ ((Drew s.words left left' ⊎ DrewNone left left') × EndsBefore end admin calls calls' told told' faults faults' o p)
+          ⊎ ((Drew s.words left left' ⊎ DrewNone end left left') × EndsBefore end admin calls calls' told told' faults faults' o p)
           → (Drew s.words left left' × Passes end admin Opened Refused K id address ds first calls' told' faults' o p)
-          ⊎ ((Drew s.words left left' ⊎ DrewNone left left') × EndsBefore end admin calls calls' told told' faults faults' o p)
+          ⊎ ((Drew s.words left left' ⊎ DrewNone end left left') × EndsBefore end admin calls calls' told told' faults faults' o p)
       by (inr before) = inr before
       by (inl (drew, passes)) = inl (drew, passes_as end id admin Opened Refused address ds first calls' told' faults' o p passes)

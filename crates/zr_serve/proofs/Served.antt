@@ -108,23 +108,24 @@ without_words admin calls calls' told faults out err err' errs errs' same says =
     record { recorded = same; started = refl; counted = le_refl _; unsaid = refl; tells = says }
 
 -- what a host that was asked gave: none, or a generator, and nothing more since
-none_drawn : {W : Type 0} (stream : W → Stream) (left left' : Option (List Stream)) → host.Draws stream None left left' → DrewNone left left'
+none_drawn : {W : Type 0} (stream : W → Stream) (left left' : Option (List Stream)) → host.Draws stream None left left' → DrewNone e.HostFault left left'
 none_drawn stream None left' drawn = tt
-none_drawn stream (Some left) left' (none, after) = after ∙ ap Some (sym none)
+none_drawn stream (Some left) left' drawn = drawn
 
 one_drawn : {W : Type 0} (stream : W → Stream) (w : W) (left mid left' : Option (List Stream)) → host.Draws stream (Some w) left mid → left' ≡ mid → Drew (stream w) left left'
 one_drawn stream w None mid left' drawn same = tt
 one_drawn stream w (Some left) mid left' (rest, is, after) same = (rest, is, same ∙ after)
 
-kept_drawn : (left : Option (List Stream)) → DrewNone left left
+kept_drawn : (left : Option (List Stream)) → DrewNone e.NoMemory left left
 kept_drawn None = tt
 kept_drawn (Some left) = refl
 
 module _ (end : ServeEnd) (id : List ℕ) (policy : PolicyState) (log admin : Bool) (Opened Refused : ℕ → Type 0) (Heard : Bool → Type 0) (address : List ℕ) (texts : List DialState)
     (left left' : Option (List Stream)) (calls calls' : Option (List Call)) (told told' : Option (List ServeJob)) (faults faults' : ℕ) (o p : Outputs) where
-  pub ended_before : {W : Type 0} (stream : W → Stream) → host.Draws stream None left left' → EndsBefore end admin calls calls' told told' faults faults' o p
+  pub ended_before : {W : Type 0} (stream : W → Stream) → host.Draws stream None left left' → end ≡ e.HostFault → EndsBefore end admin calls calls' told told' faults faults' o p
       → IsServed end id policy log admin Opened Refused Heard address texts left left' calls calls' told told' faults faults' o p
-  ended_before stream drawn before = record { words = no_stream; goes = inr (inr (none_drawn stream left left' drawn), before) }
+  ended_before stream drawn is before =
+      record { words = no_stream; goes = inr (inr (subst (λ z. DrewNone z left left') (sym is) (none_drawn stream left left' drawn)), before) }
 
   -- it ended while it dealt with its administration space, once it had random words
   pub ended_within : {W : Type 0} (stream : W → Stream) (w : W) (drew : Option (List Stream)) (mid : Option (List Call)) → host.Draws stream (Some w) left drew → left' ≡ drew → mid ≡ calls

@@ -148,20 +148,24 @@ abbrev pub Drew : Stream → Option (List Stream) → Option (List Stream) → T
 Drew words None left' = Unit {0}
 Drew words (Some left) left' = (rest : List Stream) × (left ≡ words ∷ rest) × (left' ≡ Some rest)
 
--- it gave none
-abbrev pub DrewNone : Option (List Stream) → Option (List Stream) → Type 0
-DrewNone None left' = Unit {0}
-DrewNone (Some left) left' = left' ≡ Some left
+-- it had none to give where it failed for want of one, and was not asked where memory ran out before; no other end comes before it was asked
+abbrev pub DrewNone : ServeEnd → Option (List Stream) → Option (List Stream) → Type 0
+DrewNone HostFault None left' = Unit {0}
+DrewNone HostFault (Some left) left' = (left ≡ []) × (left' ≡ Some [])
+DrewNone NoMemory None left' = Unit {0}
+DrewNone NoMemory (Some left) left' = left' ≡ Some left
+DrewNone Done left left' = ⊥
+DrewNone WriteFault left left' = ⊥
 
 -- A router of this identifier was served at this address under these rules, its links with logs or without, with an administration space or without, and these
--- were to be dialled: from the old calls of the host, jobs told and failed starts of the crew to the new ones, for the words of a generator that the host had
--- left, and gave. `Opened` and `Refused` say of a random word that the inner client with it was opened, or that the router refused it; `Heard` says whether the
+-- were to be dialled: from the old calls of the host, jobs told and failed starts of the crew to the new ones, with the generator that the host gave, if it was asked
+-- for one. `Opened` and `Refused` say of a random word that the inner client with it was opened, or that the router refused it; `Heard` says whether the
 -- router had heard that its identifier was in use before
 pub record IsServed (end : ServeEnd) (id : List ℕ) (policy : PolicyState) (log admin : Bool) (Opened Refused : ℕ → Type 0) (Heard : Bool → Type 0) (address : List ℕ) (ds : List DialState)
     (left left' : Option (List Stream)) (calls calls' : Option (List Call)) (told told' : Option (List ServeJob)) (faults faults' : ℕ) (o p : Outputs) : Type 0 where
   pub words : Stream
   pub goes : (Drew words left left' × Passes end admin Opened Refused Heard id address ds (moment calls told faults o.err (first_links id policy log words)) calls' told' faults' o p)
-      ⊎ ((Drew words left left' ⊎ DrewNone left left') × EndsBefore end admin calls calls' told told' faults faults' o p)
+      ⊎ ((Drew words left left' ⊎ DrewNone end left left') × EndsBefore end admin calls calls' told told' faults faults' o p)
 
 -- so many of the addresses were dialled
 pub record Dials (ds : List DialState) (count : ℕ) (a b : Moment) : Type 0 where

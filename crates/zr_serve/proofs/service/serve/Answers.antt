@@ -9,7 +9,7 @@ use Rattle.zr_serve.proofs.service.serve.Goals as goal
 
 pub returns-in_default-clause-served : goal.returns-in_default-clause-served
 returns-in_default-clause-served g c =
-    ended_before _ _ _ _ _ _ _ _ _ _ _ _ _ _ _ _ _ _ _ _ (λ w. g.H.Words.Rng.stream w) c.in_default.ensures.drawn (without_words _ _ _ _ _ _ _ _ _ _ c.in_default.ensures.told c.say_last.ensures.says)
+    ended_before _ _ _ _ _ _ _ _ _ _ _ _ _ _ _ _ _ _ _ _ (λ w. g.H.Words.Rng.stream w) c.in_default.ensures.drawn refl (without_words _ _ _ _ _ _ _ _ _ _ c.in_default.ensures.told c.say_last.ensures.says)
 
 pub returns-in-Err-clause-served : goal.returns-in-Err-clause-served
 returns-in-Err-clause-served g c =
