@@ -22,7 +22,7 @@ use Rattle.zr_link.specs.declared.end.LinkEnd.{LinkEnd}
 use Rattle.zr_link.specs.declared.end.LinkEnd.TheVariants as end
 use Rattle.zr_link.specs.Ends.{end_of_delivery}
 use Rattle.zr_link.specs.Heard.{Closes, messages}
-use Rattle.zr_link.specs.Run.{ComesUp, EarlyEnds, NotTaken, Refuses, Runs, StaysDown, UpEnds}
+use Rattle.zr_link.specs.Run.{Answering, ComesUp, EarlyEnds, NotTaken, Refuses, Runs, StaysDown, UpEnds}
 use Rattle.zr_link.specs.Complete.{HasCause, IsComplete, IsNotTaken, IsStopped, IsUnclosed}
 
 -- a refusal that brings an end isn't passed over
@@ -36,7 +36,7 @@ stops_of (deliver.Full asked free) e is = refl
 stops_of deliver.Worn e is = refl
 stops_of deliver.NoMemory e is = refl
 
-module _ (refuses_up : List Entry → PeerState → UpError → Type 0) (refuses : List Entry → LinkNo → Msg → DeliverError → Type 0) (refuses_down : List Entry → LinkNo → DownError → Type 0) (L : Phase → Type 0)
+module _ (refuses_up : List Entry → PeerState → UpError → Type 0) (refuses : List Entry → LinkNo → Msg → DeliverError → Type 0) (refuses_down : List Entry → LinkNo → DownError → Type 0) (called : Answering) (L : Phase → Type 0)
     (W : List ℕ → Type 0) (old new : Pass Entry) where
   closed_for : (c : Course) (reason : Reason) → Closes reason c L → HasCause c L refuses_up refuses old new
   closed_for c reason (inl is) = inl (how.Closed reason, is)
@@ -55,7 +55,7 @@ module _ (refuses_up : List Entry → PeerState → UpError → Type 0) (refuses
   down_for end.NoMemory c why = inl tt
 
   -- it came up
-  up_for : (e : LinkEnd) (c : Course) (u : ComesUp e c L W refuses refuses_down old new)
+  up_for : (e : LinkEnd) (c : Course) (u : ComesUp e c L W refuses refuses_down called old new)
       → UpEnds e c u.others (u.came ≡ []) L (λ reason. Refuses (λ m x. refuses u.last.seen u.link m x) u.others reason) → IsUnclosed e ⊎ HasCause c L refuses_up refuses old new
   up_for end.ReadFault c u why = inl tt
   up_for end.WriteFault c u why = inl tt
@@ -83,11 +83,11 @@ module _ (refuses_up : List Entry → PeerState → UpError → Type 0) (refuses
   up_for end.Turns c u why = inl tt
   up_for end.NoMemory c u why = inl tt
 
-  pub complete_of : (s : SessionState) (e : LinkEnd) (before after : Option (List ℕ)) → Runs s e before after L W refuses_up refuses refuses_down old new
+  pub complete_of : (s : SessionState) (e : LinkEnd) (before after : Option (List ℕ)) → Runs s e before after L W refuses_up refuses refuses_down called old new
       → IsComplete s e before after L refuses_up refuses old new
   complete_of s e before after r = by (made r.made)
     where
-      made : StaysDown e r.course L W refuses_up old new ⊎ ComesUp e r.course L W refuses refuses_down old new → IsUnclosed e ⊎ HasCause r.course L refuses_up refuses old new
+      made : StaysDown e r.course L W refuses_up old new ⊎ ComesUp e r.course L W refuses refuses_down called old new → IsUnclosed e ⊎ HasCause r.course L refuses_up refuses old new
       made (inl d) = down_for e r.course d.why
       made (inr u) = up_for e r.course u u.why
 

@@ -8,7 +8,8 @@ use Rattle.zr_session.specs.declared.fate.Fate.{Fate}
 use Rattle.zr_session.specs.declared.fate.Fate.TheVariants as fate
 use Rattle.zr_link.specs.declared.end.LinkEnd.{LinkEnd}
 use Rattle.zr_link.specs.declared.end.LinkEnd.TheVariants as end
-use Rattle.zr_link.proofs.Going.{Settles, counted_same, of_delivery_end}
+use Rattle.zr_outside.proofs.Counting.{counted_same}
+use Rattle.zr_link.proofs.Going.{Settles, of_delivery_end}
 
 pub rose_none : (a : ℕ) → RoseBy 0 a a
 rose_none a = record { most = omega arith; least = omega arith }

@@ -1,7 +1,6 @@
 -- Messages that are delivered on a link, and how the reader of a link that is up ends.
-use Rattle.std.proofs.Common.{◌≡◌, ◌≢◌, ◌⊎◌, ℕ, ◌+◌, ◌<◌, ◌≤◌, min, ltb, arith, length, Bool, true, false, List, [], ◌∷◌, ◌++◌, map, Option, Some, None, refl, sym, ap, subst, ◌∙◌, append_assoc, inl, inr}
+use Rattle.std.proofs.Common.{◌≡◌, ◌≢◌, ◌⊎◌, ℕ, ◌+◌, ◌<◌, ◌≤◌, min, arith, length, Bool, true, false, List, [], ◌∷◌, ◌++◌, map, Option, Some, None, refl, sym, ap, subst, ◌∙◌, append_assoc, inl, inr}
 use Rattle.std.proofs.lemmas.List.{append-nil, map-append}
-use Rattle.std.proofs.lemmas.Bool.{ltb-true, ltb-false}
 use Rattle.std.specs.List.{AllByRecursion}
 use Rattle.zr_id.specs.declared.link.LinkNo.{LinkNo}
 use Rattle.zr_frame.specs.Outbox.{OutboxState}
@@ -11,7 +10,7 @@ use Rattle.zr_msg.specs.declared.msg.Msg.{Msg}
 use Rattle.zr_msg.specs.declared.error.NodeError.TheVariants as node
 use Rattle.zr_open.specs.declared.expected.Expected.{Expected}
 use Rattle.zr_open.specs.declared.error.Reason.{Reason}
-use Rattle.zr_outside.specs.Counts.{Counted, RoseBy}
+use Rattle.zr_outside.specs.Counts.{RoseBy}
 use Rattle.zr_port.specs.declared.entry.Entry.{Entry}
 use Rattle.zr_port.specs.declared.error.DeliverError.{DeliverError}
 use Rattle.zr_port.specs.declared.error.DeliverError.TheVariants as deliver
@@ -31,6 +30,7 @@ use Rattle.zr_link.specs.declared.end.LinkEnd.{LinkEnd}
 use Rattle.zr_link.specs.declared.end.LinkEnd.TheVariants as end
 use Rattle.zr_link.specs.Ends.{end_of_delivery, IsEarly, IsStarted}
 use Rattle.zr_link.specs.Acts.{Act, act_of, Does, from, froms}
+use Rattle.zr_link.specs.Gone.{IsGone, is_gone}
 use Rattle.zr_link.specs.Heard.{AreMessages, messages, Between, Hears, HearsSome, FateIs, LostIs, Closes, IsOpen, IsIn}
 use Rattle.zr_link.specs.Run.{Delivers, Stops, Refuses, UpEnds, EndIs, Follows}
 use Rattle.zr_link.proofs.Stream.{are_bytes_then}
@@ -413,14 +413,23 @@ follows_started link came s e before after Late refuses last run i h =
     let x = h i.0 i.1 come.0 i.2 i.3 come.1 i.5 (runs_at i.0 s.opening s.state s.kept i.1 i.2 i.4 run) (λ _. i.4) in
     up_started e x.2.course x.1 Late _ x.4
 
--- ---- counts
+-- ---- a link that is gone
 
-pub counted_same : (a b : ℕ) (E : Type 0) → Counted a b E → (E → ⊥) → b ≡ a
-counted_same a b E h never = by (ltb a b) refl
-  where
-    by : (t : Bool) → ltb a b ≡ t → b ≡ a
-    by true e = absurd (never (h.only (ltb-true a b e)))
-    by false e = let k = ltb-false a b e in let l = h.later in omega (arith, k, l)
+-- not where nothing was refused
+pub not_gone : {X : Type 0} (o : Option DeliverError) → o ≡ None → is_gone o ≡ true → X
+not_gone o none gone = let k : is_gone None ≡ true = subst (λ z. is_gone z ≡ true) none gone in absurd cc
+
+gone_told : (error : DeliverError) → is_gone (Some error) ≡ true → error ≢ deliver.NoMemory
+gone_told error gone none = let k : is_gone (Some deliver.NoMemory) ≡ true = subst (λ z. is_gone (Some z) ≡ true) none gone in absurd cc
+
+-- the message that was refused tells it
+pub gone_by : (refuses : Msg → DeliverError → Type 0) (rest : List Msg) (error : DeliverError) (o : Option DeliverError) → o ≡ Some error → StopsAt refuses rest error
+    → is_gone o ≡ true → IsGone refuses
+gone_by refuses rest error o is s gone =
+    let told : is_gone (Some error) ≡ true = subst (λ z. is_gone z ≡ true) is gone in
+    (s.msg, error, told, s.refused (gone_told error told))
+
+-- ---- counts
 
 pub rose_more : (n a b c : ℕ) → RoseBy n a b → RoseBy 1 b c → RoseBy (n + 1) a c
 rose_more n a b c h k = let p = h.most in let q = h.least in let r = k.most in let s = k.least in record { most = omega (arith, p, r); least = omega (arith, q, s) }

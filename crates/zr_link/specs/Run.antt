@@ -1,5 +1,5 @@
 -- What a reader makes of a link, from its begin to its end.
-use Rattle.std.specs.Prelude.{◌≡◌, ◌≢◌, ◌⊎◌, ℕ, List, [], ◌∷◌, ◌++◌, Option, Some, None}
+use Rattle.std.specs.Prelude.{◌≡◌, ◌≢◌, ◌⊎◌, ℕ, List, [], ◌∷◌, ◌++◌, Option, Some, None, Result, Ok, Err}
 use mathlib.Core.List.{IsPrefix}
 use Rattle.zr_id.specs.declared.link.LinkNo.{LinkNo}
 use Rattle.zr_frame.specs.Outbox.{OutboxState}
@@ -33,7 +33,12 @@ use Rattle.zr_link.specs.declared.end.LinkEnd.TheVariants as end
 use Rattle.zr_link.specs.Ends.{end_of_up, end_of_delivery, reason_of, IsEarly}
 use Rattle.zr_link.specs.Heard.{AreBytes, Takes, Heard, Closes, FateIs, messages, first_of, IsOpen}
 use Rattle.zr_link.specs.Acts.{Act, Does, up, down, froms}
+use Rattle.zr_link.specs.Gone.{IsGone}
 use Rattle.zr_port.specs.Coming.{Sight, sight, AddsOne, Looks, Came, messages_of, delivered, Through}
+
+-- what calls of `down` answer, by the link, the reason, and what was seen and added before and behind them
+abbrev pub Answering : Type 1
+Answering = LinkNo → Option ℕ → Sight → Sight → Result (Unit {0}) DownError → Type 0
 
 -- ---- messages that are delivered on a link
 
@@ -118,16 +123,21 @@ pub record StaysDown (end : LinkEnd) (c : Course) (Late : Phase → Type 0) (Wri
   pub why : EarlyEnds end c c.events Late (λ reason. NotTaken refuses (seen new) c.events reason)
   pub writes : Writes c.bytes
 
--- the link goes down with the reason of the reader's end, behind all that was seen and added before, unless the port refuses that
-abbrev pub GoesDown : LinkNo → LinkEnd → (DownError → Type 0) → List Act → Sight → Sight → Type 0
-GoesDown link end refuses downs old new =
-    ((downs ≡ down link (reason_of end) ∷ []) × AddsOne (Down link) None (reason_of end) old new)
-    ⊎ ((downs ≡ []) × Looks old new × ((error : DownError) × (error ≢ down_error.NoMemory → refuses error)))
+-- what `down` answers, and by which acts: the link goes down with the reason of the reader's end, behind all that was seen and added before, or that is refused
+abbrev pub IsDown : LinkNo → LinkEnd → (DownError → Type 0) → List Act → Sight → Sight → Result (Unit {0}) DownError → Type 0
+IsDown link end refuses downs old new (Ok _) = (downs ≡ down link (reason_of end) ∷ []) × AddsOne (Down link) None (reason_of end) old new
+IsDown link end refuses downs old new (Err error) = (downs ≡ []) × Looks old new × (error ≢ down_error.NoMemory → refuses error)
+
+-- `down` was called once, with the reason of the reader's end. It wasn't where the link is gone: another caller has taken it down, as a message over it told
+abbrev pub GoesDown : LinkNo → LinkEnd → (DownError → Type 0) → Answering → Type 0 → List Act → Sight → Sight → Type 0
+GoesDown link end refuses called Gone downs old new =
+    ((answer : Result (Unit {0}) DownError) × called link (reason_of end) old new answer × IsDown link end refuses downs old new answer)
+    ⊎ ((downs ≡ []) × (new ≡ old) × Gone)
 
 -- The link came up with the peer and the outbox with which the session opened, then messages came, in order, each delivered or passed over, and at last
 -- it went down. The
 -- answer to OPEN was written behind what the session answered at once
-pub record ComesUp (end : LinkEnd) (c : Course) (Late : Phase → Type 0) (Writes : List ℕ → Type 0) (refuses : List Entry → LinkNo → Msg → DeliverError → Type 0) (refuses_down : List Entry → LinkNo → DownError → Type 0) (old new : Pass Entry) : Type 0 where
+pub record ComesUp (end : LinkEnd) (c : Course) (Late : Phase → Type 0) (Writes : List ℕ → Type 0) (refuses : List Entry → LinkNo → Msg → DeliverError → Type 0) (refuses_down : List Entry → LinkNo → DownError → Type 0) (called : Answering) (old new : Pass Entry) : Type 0 where
   pub link : LinkNo
   pub peer : PeerState
   pub outbox : OutboxState
@@ -142,7 +152,7 @@ pub record ComesUp (end : LinkEnd) (c : Course) (Late : Phase → Type 0) (Write
   pub behind : IsPrefix last.seen (seen new)
   pub own : IsPrefix last.mine (mine new)
   pub does : Does (up link peer outbox ∷ (froms link (delivered came) ++ downs)) (mine old) (mine new)
-  pub goes_down : GoesDown link end (λ e. refuses_down (seen new) link e) downs last (sight new)
+  pub goes_down : GoesDown link end (λ e. refuses_down (seen new) link e) called (IsGone (λ m e. refuses last.seen link m e)) downs last (sight new)
   pub why : UpEnds end c others (came ≡ []) Late (λ reason. Refuses (λ m e. refuses last.seen link m e) others reason)
   pub writes : Writes (c.bytes ++ owed_in c.phase)
 
@@ -158,35 +168,35 @@ EndsRefused peer end before after Writes refuses_up old new =
     (mine new ≡ mine old) × (after ≡ before) × ((error : UpError) × (error ≢ up_error.NoMemory → refuses_up (seen new) peer error) × (end ≡ end_of_up error)) × Writes []
 
 -- The port takes it, and no writer is started: the answer to OPEN is written, and the link goes down
-abbrev pub EndsEarly : PeerState → OutboxState → SessionState → LinkEnd → Option (List ℕ) → Option (List ℕ) → (List ℕ → Type 0) → (List Entry → LinkNo → DownError → Type 0) → Pass Entry → Pass Entry → Type 0
-EndsEarly peer outbox s end before after Writes refuses_down old new =
+abbrev pub EndsEarly : PeerState → OutboxState → SessionState → LinkEnd → Option (List ℕ) → Option (List ℕ) → (List ℕ → Type 0) → (List Entry → LinkNo → DownError → Type 0) → Answering → Pass Entry → Pass Entry → Type 0
+EndsEarly peer outbox s end before after Writes refuses_down called old new =
     (link : LinkNo) × (downs : List Act) × Does (up link peer outbox ∷ downs) (mine old) (mine new)
     × IsEarly end × (after ≡ before) × Writes (owed_bytes s) × ((begun : Sight) × AddsOne (Up link peer) (Some outbox) None (sight old) begun × IsPrefix begun.seen (seen new) × IsPrefix begun.mine (mine new)
-    × GoesDown link end (λ e. refuses_down (seen new) link e) downs begun (sight new))
+    × GoesDown link end (λ e. refuses_down (seen new) link e) called ⊥ downs begun (sight new))
 
--- The port takes it, and its writer is started: messages are delivered, and the link goes down. The sink is handed on
-abbrev pub EndsStarted : PeerState → OutboxState → SessionState → List SessionEvent → Fate → LinkEnd → Option (List ℕ) → Option (List ℕ) → (Phase → Type 0) → Type 0
-    → (List Entry → LinkNo → Msg → DeliverError → Type 0) → (List Entry → LinkNo → DownError → Type 0) → Pass Entry → Pass Entry → Type 0
-EndsStarted peer outbox s waiting f end before after Late IsHandedOn refuses refuses_down old new =
+-- The port takes it, and its writer is started: messages are delivered, and the link goes down. The sink is handed on once the answer to OPEN is written
+abbrev pub EndsStarted : PeerState → OutboxState → SessionState → List SessionEvent → Fate → LinkEnd → Option (List ℕ) → Option (List ℕ) → (Phase → Type 0) → (List ℕ → Type 0)
+    → (List Entry → LinkNo → Msg → DeliverError → Type 0) → (List Entry → LinkNo → DownError → Type 0) → Answering → Pass Entry → Pass Entry → Type 0
+EndsStarted peer outbox s waiting f end before after Late Writes refuses refuses_down called old new =
     (link : LinkNo) × (came : List Came) × (downs : List Act) × Does (up link peer outbox ∷ (froms link (delivered came) ++ downs)) (mine old) (mine new)
-    × IsHandedOn
+    × Writes (owed_bytes s)
     × ((begun : Sight) × (last : Sight) × AddsOne (Up link peer) (Some outbox) None (sight old) begun × Through link (λ h m e. refuses h link m e) came begun last
     × IsPrefix last.seen (seen new) × IsPrefix last.mine (mine new) × Follows link came s waiting f end before after Late refuses last.seen
-    × GoesDown link end (λ e. refuses_down (seen new) link e) downs last (sight new))
+    × GoesDown link end (λ e. refuses_down (seen new) link e) called (IsGone (λ m e. refuses last.seen link m e)) downs last (sight new))
 
 -- The session has opened, and the port takes the peer or not. `Writes` is told of the answer to OPEN, where it is written
-abbrev pub Enters : PeerState → OutboxState → SessionState → List SessionEvent → Fate → LinkEnd → Option (List ℕ) → Option (List ℕ) → (Phase → Type 0) → (List ℕ → Type 0) → Type 0
-    → (List Entry → PeerState → UpError → Type 0) → (List Entry → LinkNo → Msg → DeliverError → Type 0) → (List Entry → LinkNo → DownError → Type 0) → Pass Entry → Pass Entry → Type 0
-Enters peer outbox s waiting f end before after Late Writes IsHandedOn refuses_up refuses refuses_down old new =
+abbrev pub Enters : PeerState → OutboxState → SessionState → List SessionEvent → Fate → LinkEnd → Option (List ℕ) → Option (List ℕ) → (Phase → Type 0) → (List ℕ → Type 0)
+    → (List Entry → PeerState → UpError → Type 0) → (List Entry → LinkNo → Msg → DeliverError → Type 0) → (List Entry → LinkNo → DownError → Type 0) → Answering → Pass Entry → Pass Entry → Type 0
+Enters peer outbox s waiting f end before after Late Writes refuses_up refuses refuses_down called old new =
     EndsRefused peer end before after Writes refuses_up old new
-    ⊎ (EndsEarly peer outbox s end before after Writes refuses_down old new
-    ⊎ EndsStarted peer outbox s waiting f end before after Late IsHandedOn refuses refuses_down old new)
+    ⊎ (EndsEarly peer outbox s end before after Writes refuses_down called old new
+    ⊎ EndsStarted peer outbox s waiting f end before after Late Writes refuses refuses_down called old new)
 
 -- All that a reader read, the course to which it comes, and what it made of the link. `Writes` is told of what it answered
-pub record Runs (s : SessionState) (end : LinkEnd) (before after : Option (List ℕ)) (Late : Phase → Type 0) (Writes : List ℕ → Type 0) (refuses_up : List Entry → PeerState → UpError → Type 0) (refuses : List Entry → LinkNo → Msg → DeliverError → Type 0) (refuses_down : List Entry → LinkNo → DownError → Type 0) (old new : Pass Entry) : Type 0 where
+pub record Runs (s : SessionState) (end : LinkEnd) (before after : Option (List ℕ)) (Late : Phase → Type 0) (Writes : List ℕ → Type 0) (refuses_up : List Entry → PeerState → UpError → Type 0) (refuses : List Entry → LinkNo → Msg → DeliverError → Type 0) (refuses_down : List Entry → LinkNo → DownError → Type 0) (called : Answering) (old new : Pass Entry) : Type 0 where
   pub bytes : List ℕ
   pub course : Course
   pub rest : List ℕ
   pub taken : Takes bytes before after
   pub comes : Comes s.opening (Opening (first_of s.state)) bytes course rest
-  pub made : StaysDown end course Late Writes refuses_up old new ⊎ ComesUp end course Late Writes refuses refuses_down old new
+  pub made : StaysDown end course Late Writes refuses_up old new ⊎ ComesUp end course Late Writes refuses refuses_down called old new

@@ -1,6 +1,6 @@
 //! A link that is up: what comes is delivered.
 
-ghost use Rattle.std.specs.Prelude.{◌≡◌, ◌≢◌, ◌<◌, ◌≤◌, ◌+◌, ◌⊎◌, List, [], true, IfErr, IfOk, OnErr, OnOk, vec_capacity};
+ghost use Rattle.std.specs.Prelude.{◌≡◌, ◌≢◌, ◌<◌, ◌≤◌, ◌+◌, ◌⊎◌, List, [], true, None, IfErr, IfOk, OnErr, OnOk, vec_capacity};
 ghost use Rattle.std.specs.List.{AllByRecursion};
 ghost use mathlib.Core.List.{IsPrefix};
 ghost use Rattle.std.specs.Vec.Iter.{into_iter_items};
@@ -15,6 +15,8 @@ ghost use Rattle.zr_link.specs.declared.end.LinkEnd.TheVariants as end;
 ghost use Rattle.zr_link.specs.Heard.{AreMessages, IsLate, IsOpen, IsIn};
 ghost use Rattle.zr_link.specs.Heard as heard;
 ghost use Rattle.zr_port.specs.Coming.{Came, Through, sight};
+ghost use Rattle.zr_link.specs.Gone.{IsGone, is_gone};
+ghost use Rattle.zr_link.specs.Log.{refusal_of};
 ghost use Rattle.zr_link.specs.Logged.{TellsDenials};
 ghost use Rattle.zr_link.specs.Run.{Delivers, Stops, EndIs, Follows};
 
@@ -48,6 +50,7 @@ pub(crate) fn go_on<S: Source, P: Port, C: Clock, L: Log + Drop>(
     requires pass { pass_name pass.old ≡ P.history port.now }
     requires running { is_running intake.old.session.state ≡ true }
     requires opened { IsIn IsOpen intake.old.session }
+    requires going { refusal_of log.old ≡ None }
     ensures same { IsSamePass pass.old pass.new }
     ensures prefix { IsPrefix (seen pass.old) (seen pass.new) }
     ensures followed { (came : List Came) × Through link (λ h m x. P.refuses_message port.now h link m x) came (sight pass.old) (sight pass.new) × Follows link came intake.old.session [] fates.Going result (S.left source.old) (S.left source.new) (IsLate (S.quiets source.old) (S.quiets source.new) intake.old.session.heard (C.last clock.old) (C.last clock.new)) (P.refuses_message port.now) (seen pass.new) }
@@ -56,6 +59,7 @@ pub(crate) fn go_on<S: Source, P: Port, C: Clock, L: Log + Drop>(
     ensures turns { result ≡ end.Turns → RoseBy turns (S.reads source.old) (S.reads source.new) }
     ensures reads { S.reads source.new ≤ S.reads source.old + turns }
     ensures later { (S.quiets source.old ≤ S.quiets source.new) × (C.last clock.old ≤ C.last clock.new) }
+    ensures gone { is_gone (refusal_of log.new) ≡ true → IsGone (λ m x. P.refuses_message port.now (seen pass.new) link m x) }
     ensures logged { TellsDenials (λ l. L.held l) (λ l. L.lost l) log.old log.new }
 {
     for _ in 0..turns {
@@ -85,10 +89,13 @@ pub(crate) fn settle<P: Port, L: Log + Drop>(
 ) -> Result<(), LinkEnd>
     requires pass { pass_name pass.old ≡ P.history port.now }
     requires messages { AreMessages IsSpelled (into_iter_items messages) }
+    requires going { refusal_of log.old ≡ None }
     ensures same { IsSamePass pass.old pass.new }
     ensures prefix { IsPrefix (seen pass.old) (seen pass.new) }
     ensures ok { OnOk result ((fate ≡ fates.Going) × Delivers link (λ h m x. P.refuses_message port.now h link m x) (into_iter_items messages) [] (sight pass.old) (sight pass.new)) }
     ensures err { IfErr result (λ e. (rest : List SessionEvent) × Delivers link (λ h m x. P.refuses_message port.now h link m x) (into_iter_items messages) rest (sight pass.old) (sight pass.new) × (Stops (λ m x. P.refuses_message port.now (seen pass.new) link m x) rest e ⊎ ((rest ≡ []) × EndIs fate e))) }
+    ensures going { OnOk result (refusal_of log.new ≡ None) }
+    ensures gone { OnErr result (is_gone (refusal_of log.new) ≡ true → IsGone (λ m x. P.refuses_message port.now (seen pass.new) link m x)) }
     ensures logged { TellsDenials (λ l. L.held l) (λ l. L.lost l) log.old log.new }
 {
     match deliver_all(alloc, port, pass, link, messages, now, log) {
@@ -109,10 +116,13 @@ fn deliver_all<P: Port, L: Log + Drop>(
 ) -> Result<(), LinkEnd>
     requires pass { pass_name pass.old ≡ P.history port.now }
     requires messages { AreMessages IsSpelled (into_iter_items events) }
+    requires going { refusal_of log.old ≡ None }
     ensures same { IsSamePass pass.old pass.new }
     ensures prefix { IsPrefix (seen pass.old) (seen pass.new) }
     ensures all { OnOk result (Delivers link (λ h m x. P.refuses_message port.now h link m x) (into_iter_items events) [] (sight pass.old) (sight pass.new)) }
     ensures stopped { IfErr result (λ e. (rest : List SessionEvent) × Delivers link (λ h m x. P.refuses_message port.now h link m x) (into_iter_items events) rest (sight pass.old) (sight pass.new) × Stops (λ m x. P.refuses_message port.now (seen pass.new) link m x) rest e) }
+    ensures going { OnOk result (refusal_of log.new ≡ None) }
+    ensures gone { OnErr result (is_gone (refusal_of log.new) ≡ true → IsGone (λ m x. P.refuses_message port.now (seen pass.new) link m x)) }
     ensures logged { TellsDenials (λ l. L.held l) (λ l. L.lost l) log.old log.new }
 {
     let Ok(messages) = messages_of(alloc, events) else {

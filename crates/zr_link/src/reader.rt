@@ -17,15 +17,15 @@ ghost use Rattle.zr_link.specs.declared.end.LinkEnd.TheVariants as end;
 ghost use Rattle.zr_link.specs.Acts.{Act, Does};
 ghost use Rattle.zr_port.specs.Coming.{Came, Through, sight};
 ghost use Rattle.zr_link.specs.Heard.{IsBegun, IsLate, IsOpen, IsIn, AreMessages};
-ghost use Rattle.zr_link.specs.Written.{IsWritten, Puts, Wrote, close_with};
+ghost use Rattle.zr_link.specs.Written.{HandsOn, IsWritten, Puts, Wrote, close_with};
 ghost use Rattle.zr_link_writer.specs.Parts.{close_bytes};
 ghost use Rattle.zr_link.specs.Complete.{IsComplete};
 ghost use Rattle.zr_link.specs.Run.{Follows, Enters, Runs, Starts, GoesDown};
 ghost use Rattle.zr_link.specs.declared.log.Stage.TheVariants as stages;
-ghost use Rattle.zr_link.specs.Log.{stage_of};
+ghost use Rattle.zr_link.specs.Log.{refusal_of, stage_of};
 ghost use Rattle.zr_link.specs.Logged.{IsLogged, RefusesPeer, TellsDenials};
 ghost use Rattle.zr_link.specs.Failed.{MayHaveFailed};
-ghost use Rattle.zr_link.specs.Gone.{is_gone};
+ghost use Rattle.zr_link.specs.Gone.{IsGone, is_gone};
 ghost use Rattle.zr_link.specs.Ends.{IsEarly, IsStarted, IsCrewRefused, end_of_up};
 
 use crate::cause::cause;
@@ -98,7 +98,7 @@ impl Reader {
         requires unopened { stage_of log.old ≡ stages.Unopened }
         ensures same { IsSamePass pass.old pass.new }
         ensures prefix { IsPrefix (seen pass.old) (seen pass.new) }
-        ensures run { Runs session result.0 (S.left source.old) (S.left source.new) (IsLate (S.quiets source.old) (S.quiets source.new) session.heard (C.last clock.old) (C.last clock.new)) (λ answers. Wrote (λ k. K.held k) (λ k. K.faults k) result.0 (first.now ++ answers) out.sink result.1) (P.refuses_up (arc_value out.port)) (P.refuses_message (arc_value out.port)) (P.refuses_down (arc_value out.port)) pass.old pass.new }
+        ensures run { Runs session result.0 (S.left source.old) (S.left source.new) (IsLate (S.quiets source.old) (S.quiets source.new) session.heard (C.last clock.old) (C.last clock.new)) (λ answers. Wrote (λ k. K.held k) (λ k. K.faults k) result.0 (first.now ++ answers) out.sink result.1) (P.refuses_up (arc_value out.port)) (P.refuses_message (arc_value out.port)) (P.refuses_down (arc_value out.port)) (P.answers_down (arc_value out.port)) pass.old pass.new }
         ensures complete { IsComplete session result.0 (S.left source.old) (S.left source.new) (IsLate (S.quiets source.old) (S.quiets source.new) session.heard (C.last clock.old) (C.last clock.new)) (P.refuses_up (arc_value out.port)) (P.refuses_message (arc_value out.port)) pass.old pass.new }
         ensures fault { Counted (S.faults source.old) (S.faults source.new) (result.0 ≡ end.ReadFault) }
         ensures ended { Counted (S.ends source.old) (S.ends source.new) (result.0 ≡ end.PeerEnded) }
@@ -170,7 +170,7 @@ where
     requires stands { opened.fate ≡ fates.Going → (is_running intake.old.session.state ≡ true) × IsIn IsOpen intake.old.session }
     ensures same { IsSamePass pass.old pass.new }
     ensures prefix { IsPrefix (seen pass.old) (seen pass.new) }
-    ensures entered { Enters opened.peer opened.outbox intake.old.session (into_iter_items opened.messages) opened.fate result.0 (S.left source.old) (S.left source.new) (IsLate (S.quiets source.old) (S.quiets source.new) intake.old.session.heard (C.last clock.old) (C.last clock.new)) (λ owed. (answers : List ℕ) → intake.old.fed.bytes.items ≡ answers ++ close_with opened.fate → Wrote (λ k. K.held k) (λ k. K.faults k) result.0 (answers ++ owed) out.sink result.1) (result.1 ≡ None) (P.refuses_up port.now) (P.refuses_message port.now) (P.refuses_down port.now) pass.old pass.new }
+    ensures entered { Enters opened.peer opened.outbox intake.old.session (into_iter_items opened.messages) opened.fate result.0 (S.left source.old) (S.left source.new) (IsLate (S.quiets source.old) (S.quiets source.new) intake.old.session.heard (C.last clock.old) (C.last clock.new)) (λ owed. (answers : List ℕ) → intake.old.fed.bytes.items ≡ answers ++ close_with opened.fate → Wrote (λ k. K.held k) (λ k. K.faults k) result.0 (answers ++ owed) out.sink result.1) (P.refuses_up port.now) (P.refuses_message port.now) (P.refuses_down port.now) (P.answers_down port.now) pass.old pass.new }
     ensures fault { Counted (S.faults source.old) (S.faults source.new) (result.0 ≡ end.ReadFault) }
     ensures ended { Counted (S.ends source.old) (S.ends source.new) (result.0 ≡ end.PeerEnded) }
     ensures turns { result.0 ≡ end.Turns → RoseBy opened.left (S.reads source.old) (S.reads source.new) }
@@ -239,7 +239,7 @@ fn leave<P: Port>(
     requires { pass_name pass.old ≡ P.history port.now }
     ensures same { IsSamePass pass.old pass.new }
     ensures prefix { IsPrefix (seen pass.old) (seen pass.new) }
-    ensures left { (downs : List Act) × GoesDown link end (λ e. P.refuses_down port.now (seen pass.new) link e) downs (sight pass.old) (sight pass.new) × Does downs (mine pass.old) (mine pass.new) }
+    ensures left { (downs : List Act) × GoesDown link end (λ e. P.refuses_down port.now (seen pass.new) link e) (P.answers_down port.now) (is_gone refused ≡ true) downs (sight pass.old) (sight pass.new) × Does downs (mine pass.old) (mine pass.new) }
     ensures gone { is_gone refused ≡ true → mine pass.new ≡ mine pass.old }
 {
     if is_gone(refused) {
@@ -266,6 +266,7 @@ fn follow<S: Source, P: Port, C: Clock, L: Log + Drop>(
     requires pass { pass_name pass.old ≡ P.history port.now }
     requires messages { AreMessages IsSpelled (into_iter_items waiting) }
     requires stands { fate ≡ fates.Going → (is_running intake.old.session.state ≡ true) × IsIn IsOpen intake.old.session }
+    requires going { refusal_of log.old ≡ None }
     ensures same { IsSamePass pass.old pass.new }
     ensures prefix { IsPrefix (seen pass.old) (seen pass.new) }
     ensures followed { (came : List Came) × Through link (λ h m x. P.refuses_message port.now h link m x) came (sight pass.old) (sight pass.new) × Follows link came intake.old.session (into_iter_items waiting) fate result (S.left source.old) (S.left source.new) (IsLate (S.quiets source.old) (S.quiets source.new) intake.old.session.heard (C.last clock.old) (C.last clock.new)) (P.refuses_message port.now) (seen pass.new) }
@@ -275,6 +276,7 @@ fn follow<S: Source, P: Port, C: Clock, L: Log + Drop>(
     ensures turns { result ≡ end.Turns → RoseBy turns (S.reads source.old) (S.reads source.new) }
     ensures reads { S.reads source.new ≤ S.reads source.old + turns }
     ensures later { (S.quiets source.old ≤ S.quiets source.new) × (C.last clock.old ≤ C.last clock.new) }
+    ensures gone { is_gone (refusal_of log.new) ≡ true → IsGone (λ m x. P.refuses_message port.now (seen pass.new) link m x) }
     ensures logged { TellsDenials (λ l. L.held l) (λ l. L.lost l) log.old log.new }
 {
     let now = intake.moment;
@@ -304,6 +306,7 @@ where
     P::Note: Send + 'static,
     ensures early { IfErr result (λ e. IsEarly e.0) }
     ensures same { OnOk result (intake.new.session ≡ with_confirmed intake.old.session) }
+    ensures handed { OnOk result (HandsOn (λ k. K.held k) (λ k. K.faults k) (intake.old.fed.bytes.items ++ owed_bytes intake.old.session) out.sink) }
     ensures unwritten { IfErr result (λ e. e.0 ≡ end.WriteFault → Rose (K.faults out.sink) (K.faults e.1)) }
     ensures wrote { IfErr result (λ e. IsWritten e.0 (intake.old.fed.bytes.items ++ owed_bytes intake.old.session) (K.held out.sink) (K.held e.1) (Rose (K.faults out.sink) (K.faults e.1))) }
     ensures refused { Counted (crew_faults crew.old) (crew_faults crew.new) (IsCrewRefused result) }

@@ -201,7 +201,7 @@ fn heard<
 >(hearing: Hearing<S, K, C, L, P, R>) -> Outcome<S, C, L>
 where
     P::Note: Send + 'static,
-    ensures heard { (result.end ≡ end.NoMemory) ⊎ ((now : ℕ) × (back : Option K) × Runs (begun (expects hearing.start.side) (opening_of hearing.start) now) result.end (S.left hearing.source) (S.left result.source) (IsLate (S.quiets hearing.source) (S.quiets result.source) now now (C.last result.clock)) (λ answers. Wrote (λ k. K.held k) (λ k. K.faults k) result.end (greets hearing.start.side (opening_of hearing.start) ++ answers) hearing.sink back) (P.refuses_up (arc_value hearing.port)) (P.refuses_message (arc_value hearing.port)) (P.refuses_down (arc_value hearing.port)) hearing.pass result.pass) }
+    ensures heard { (result.end ≡ end.NoMemory) ⊎ ((now : ℕ) × (back : Option K) × Runs (begun (expects hearing.start.side) (opening_of hearing.start) now) result.end (S.left hearing.source) (S.left result.source) (IsLate (S.quiets hearing.source) (S.quiets result.source) now now (C.last result.clock)) (λ answers. Wrote (λ k. K.held k) (λ k. K.faults k) result.end (greets hearing.start.side (opening_of hearing.start) ++ answers) hearing.sink back) (P.refuses_up (arc_value hearing.port)) (P.refuses_message (arc_value hearing.port)) (P.refuses_down (arc_value hearing.port)) (P.answers_down (arc_value hearing.port)) hearing.pass result.pass) }
     ensures reads { (S.reads result.source ≤ S.reads hearing.source + hearing.start.turns) × (result.end ≡ end.Turns → RoseBy hearing.start.turns (S.reads hearing.source) (S.reads result.source)) }
     ensures logged { TellsLink (λ l. L.held l) (λ l. L.lost l) (RefusesPeer (λ peer e. P.refuses_up (arc_value hearing.port) (seen result.pass) peer e)) hearing.rules (mine hearing.pass) (mine result.pass) result.end hearing.log result.log }
 {
@@ -272,7 +272,7 @@ where
     requires pass { pass_name pass.old ≡ P.history (arc_value out.port) }
     requires turns { out.turns ≡ start.now.turns }
     requires unopened { stage_of log.old ≡ stages.Unopened }
-    ensures heard { (result ≡ end.NoMemory) ⊎ ((now : ℕ) × (back : Option K) × Runs (begun (expects start.now.side) (opening_of start.now) now) result (S.left source.old) (S.left source.new) (IsLate (S.quiets source.old) (S.quiets source.new) now now (C.last clock.new)) (λ answers. Wrote (λ k. K.held k) (λ k. K.faults k) result (greets start.now.side (opening_of start.now) ++ answers) out.sink back) (P.refuses_up (arc_value out.port)) (P.refuses_message (arc_value out.port)) (P.refuses_down (arc_value out.port)) pass.old pass.new) }
+    ensures heard { (result ≡ end.NoMemory) ⊎ ((now : ℕ) × (back : Option K) × Runs (begun (expects start.now.side) (opening_of start.now) now) result (S.left source.old) (S.left source.new) (IsLate (S.quiets source.old) (S.quiets source.new) now now (C.last clock.new)) (λ answers. Wrote (λ k. K.held k) (λ k. K.faults k) result (greets start.now.side (opening_of start.now) ++ answers) out.sink back) (P.refuses_up (arc_value out.port)) (P.refuses_message (arc_value out.port)) (P.refuses_down (arc_value out.port)) (P.answers_down (arc_value out.port)) pass.old pass.new) }
     ensures turns { result ≡ end.Turns → RoseBy start.now.turns (S.reads source.old) (S.reads source.new) }
     ensures reads { S.reads source.new ≤ S.reads source.old + start.now.turns }
     ensures logged { IsLogged (λ l. L.held l) (λ l. L.lost l) (RefusesPeer (λ peer e. P.refuses_up (arc_value out.port) (seen pass.new) peer e)) (mine pass.old) (mine pass.new) log.old log.new }

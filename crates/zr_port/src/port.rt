@@ -1,6 +1,6 @@
 //! `Port`: the calls by which links reach a router's tables.
 
-ghost use Rattle.std.specs.Prelude.{◌≡◌, ◌≢◌, ℕ, Bool, true, List, [], IfOk, IfErr, OnOk, OnErr, Some, None};
+ghost use Rattle.std.specs.Prelude.{◌≡◌, ◌≢◌, ℕ, Bool, true, List, [], Option, Result, IfOk, IfErr, OnOk, OnErr, Some, None};
 ghost use mathlib.Core.List.{IsPrefix};
 ghost use Rattle.std.specs.List.{AllByRecursion};
 ghost use Rattle.atomic_table.specs.Seated.{TableId};
@@ -18,7 +18,7 @@ ghost use Rattle.zr_port.specs.declared.error.UpError.{UpError};
 ghost use Rattle.zr_port.specs.declared.error.DeliverError.{DeliverError};
 ghost use Rattle.zr_port.specs.declared.error.DownError.{DownError};
 ghost use Rattle.zr_port.specs.Adding.{Adds, IsEntryOf, IsLeastFree, IsAdmitted};
-ghost use Rattle.zr_port.specs.Coming.{ComesUpTo, StopsAt, sight};
+ghost use Rattle.zr_port.specs.Coming.{ComesUpTo, Sight, StopsAt, sight};
 
 use crate::entry::Entry;
 use crate::error::{DeliverError, DownError, UpError};
@@ -53,6 +53,10 @@ pub trait Port {
     ghost refuses_message: { Self → List Entry → LinkNo → Msg → DeliverError → Type 0 };
 
     ghost refuses_down: { Self → List Entry → LinkNo → DownError → Type 0 };
+
+    // What a call of `down` for a reason answers, and what its pass had seen and added before and behind it. Who knows of a port only that it is one shows this
+    // by such a call alone
+    ghost answers_down: { Self → LinkNo → Option ℕ → Sight → Sight → Result (Unit {0}) DownError → Type 0 } = { λ _ _ _ _ _ _. Unit {0} };
 
     /// A session with a peer has opened: its link comes up under the least number that isn't up, and what is queued for it comes to the taker.
     fn up(
@@ -111,6 +115,7 @@ pub trait Port {
         ensures legal { is_legal self.now (seen pass.new) }
         ensures added { IfOk result (λ _. Adds pass.old pass.new (λ before e. IsEntryOf (event.Down link) None reason e × IsAdmitted (refuses_down self.now before link))) }
         ensures refused { IfErr result (λ e. e ≢ DownError.NoMemory → refuses_down self.now (seen pass.new) link e) }
+        ensures answered { answers_down self.now link reason (sight pass.old) (sight pass.new) result }
         ensures unchanged { OnErr result (mine pass.new ≡ mine pass.old) };
 
     /// A pass for one more thread, which has seen as much and appended nothing. It waits for nobody and takes no memory.

@@ -1,11 +1,11 @@
 -- What the port tells of the messages, as it is of their events.
-use Rattle.std.proofs.Common.{[]}
+use Rattle.std.proofs.Common.{◌∙◌, []}
 use Rattle.std.specs.Vec.Iter.{into_iter_items}
 use Rattle.zr_hist.specs.Words.{seen}
 use Rattle.zr_port.specs.Coming.{sight}
 use Rattle.zr_wire.specs.Writing.{IsSpelled}
 use Rattle.zr_link.specs.Heard.{messages}
-use Rattle.zr_link.proofs.Going.{delivers_none, delivers_of, stops_memory, stops_of}
+use Rattle.zr_link.proofs.Going.{delivers_none, delivers_of, gone_by, not_gone, stops_memory, stops_of}
 use Rattle.zr_link.proofs.Logged.{tells_none, tells_then}
 use Rattle.zr_link.proofs.delivery.deliver_all.Goals as goal
 
@@ -40,4 +40,14 @@ returns-in-Err-clause-logged g c =
 
 pub returns-clause-logged : goal.returns-clause-logged
 returns-clause-logged g c =
-    tells_then (λ x. g.L.Log.held x) (λ x. g.L.Log.lost x) c.args.log.now c.denial-denial.new.self c.denied.new.self c.denial-denial.ensures.tells c.denied.ensures
+    tells_then (λ x. g.L.Log.held x) (λ x. g.L.Log.lost x) c.args.log.now c.denial-denial.new.self c.denied.new.self c.denial-denial.ensures.tells c.denied.ensures.tells
+
+-- whether the link is gone
+pub returns-in_default-clause-gone : goal.returns-in_default-clause-gone
+returns-in_default-clause-gone g c = not_gone _ c.requires.going
+
+pub returns-in-Err-clause-gone : goal.returns-in-Err-clause-gone
+returns-in-Err-clause-gone g c = let stopped = c.in-Err.ensures.stopped in gone_by _ stopped.0 c.in-Err.e _ c.refused.ensures.refusal stopped.2
+
+pub returns-clause-going : goal.returns-clause-going
+returns-clause-going g c = c.denied.ensures.refusal ∙ c.denial-denial.ensures.refusal ∙ c.requires.going

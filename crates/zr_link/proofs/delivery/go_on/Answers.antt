@@ -9,7 +9,7 @@ use Rattle.zr_link.specs.Run.{Delivers}
 use Rattle.zr_link.proofs.Hearing.{plainly, plainly_some}
 use Rattle.zr_link.specs.declared.end.LinkEnd.TheVariants as end
 use Rattle.zr_link.proofs.Counts.{IsUnread, counted_err, counted_never, counted_none, moment_none, rose_none, settles_unread}
-use Rattle.zr_link.proofs.Going.{Gone, gone_none, gone_more, gone_lost, gone_settled, gone_over, open_on, open_gives, leads_by, rose_more, moment_more}
+use Rattle.zr_link.proofs.Going.{Gone, gone_none, gone_more, gone_lost, gone_settled, gone_over, not_gone, open_on, open_gives, leads_by, rose_more, moment_more}
 use Rattle.zr_link.proofs.Logged.{tells_none, tells_then}
 use Rattle.zr_link.proofs.Unopened.{late_before}
 use Rattle.zr_link.proofs.delivery.go_on.Goals as goal
@@ -25,6 +25,7 @@ loop-init g c = record {
   reads = rose_none _;
   later = (le_refl _, le_refl _);
   logged = tells_none (λ x. g.L.Log.held x) (λ x. g.L.Log.lost x) c.args.log.now;
+  going = c.requires.going;
   moment = moment_none _ _;
 }
 
@@ -72,6 +73,7 @@ loop-preserved g c =
       reads = reads;
       later = (le_trans inv.later.0 heard.later.0, le_trans inv.later.1 heard.later.1);
       logged = tells_then (λ x. g.L.Log.held x) (λ x. g.L.Log.lost x) c.args.log.now c.loop.log c.settle.new.log inv.logged done.logged;
+      going = done.going;
       moment = subst (λ (z : SessionState). min c.args.intake.now.session.heard (g.C.Clock.last c.args.clock.now) ≤ z.heard) kept (moment_more _ _ _ _ _ inv.moment inv.later.1 heard.moment);
     }
 
@@ -121,3 +123,12 @@ returns-clause-later g c = c.loop.invariant.later
 
 pub returns-in-Err-settle-clause-logged : goal.returns-in-Err-settle-clause-logged
 returns-in-Err-settle-clause-logged g c = tells_then (λ x. g.L.Log.held x) (λ x. g.L.Log.lost x) c.args.log.now c.loop.log c.settle.new.log c.loop.invariant.logged c.in-Err-settle.ensures.logged
+
+pub returns-in-Err-clause-gone : goal.returns-in-Err-clause-gone
+returns-in-Err-clause-gone g c = not_gone _ c.loop.invariant.going
+
+pub returns-in-Err-settle-clause-gone : goal.returns-in-Err-settle-clause-gone
+returns-in-Err-settle-clause-gone g c = c.in-Err-settle.ensures.gone
+
+pub returns-clause-gone : goal.returns-clause-gone
+returns-clause-gone g c = not_gone _ c.loop.invariant.going

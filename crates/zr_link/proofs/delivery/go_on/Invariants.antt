@@ -1,10 +1,11 @@
-use Rattle.std.proofs.Common.{◌≡◌, ◌≤◌, true, min}
+use Rattle.std.proofs.Common.{◌≡◌, ◌≤◌, None, true, min}
 use mathlib.Core.List.{IsPrefix}
 use Rattle.zr_outside.specs.Counts.{RoseBy}
 use Rattle.zr_hist.specs.Words.{IsSamePass, seen}
 use Rattle.zr_port.specs.Coming.{sight}
 use Rattle.zr_session.specs.Session.{is_running}
 use Rattle.zr_link.specs.Heard.{IsIn, IsOpen}
+use Rattle.zr_link.specs.Log.{refusal_of}
 use Rattle.zr_link.specs.Logged.{TellsDenials}
 use Rattle.zr_link.proofs.Going.{Gone}
 use Rattle.zr_link.proofs.delivery.go_on.Given as goal
@@ -20,5 +21,6 @@ invariant-loop g l = record {
   reads : RoseBy l.counter (g.S.Source.reads l.fn.source) (g.S.Source.reads l.source);
   later : (g.S.Source.quiets l.fn.source ≤ g.S.Source.quiets l.source) × (g.C.Clock.last l.fn.clock ≤ g.C.Clock.last l.clock);
   logged : TellsDenials (λ x. g.L.Log.held x) (λ x. g.L.Log.lost x) l.fn.log l.log;
+  going : refusal_of l.log ≡ None;
   moment : min l.fn.intake.session.heard (g.C.Clock.last l.fn.clock) ≤ l.intake.session.heard;
 }

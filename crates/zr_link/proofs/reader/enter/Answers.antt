@@ -1,12 +1,13 @@
 -- The peer isn't taken; or the link comes up, is followed, and goes down.
-use Rattle.std.proofs.Common.{◌≡◌, ◌∙◌, ◌++◌, ◌∷◌, ℕ, List, [], refl, sym, ap, subst, inl}
-use Rattle.zr_link.specs.Written.{close_with}
+use Rattle.std.proofs.Common.{◌≡◌, ◌∙◌, ◌++◌, ◌∷◌, ℕ, true, List, [], refl, sym, ap, subst, inl}
+use Rattle.zr_link.specs.Gone.{IsGone, is_gone}
+use Rattle.zr_link.specs.Written.{HandsOn, close_with}
 use Rattle.std.proofs.lemmas.List.{append-nil}
 use Rattle.std.specs.Prelude.{Some, None}
 use Rattle.std.specs.Vec.Iter.{into_iter_items}
 use Rattle.zr_msg.specs.declared.event.Event.TheVariants as event
 use Rattle.zr_hist.specs.Words.{mine, seen}
-use Rattle.zr_session.specs.Session.{SessionState, with_confirmed}
+use Rattle.zr_session.specs.Session.{SessionState, with_confirmed, owed_bytes}
 use Rattle.zr_link.specs.Heard.{IsLate}
 use Rattle.zr_link.specs.Acts.{up, froms}
 use Rattle.zr_link.specs.Ends.{IsStarted}
@@ -17,7 +18,7 @@ use Rattle.zr_link.proofs.Going.{Followed, through_does, does_entry, does_then}
 use Rattle.zr_link.specs.Log.{IsNotUp}
 use Rattle.zr_link.specs.Logged.{RefusesPeer}
 use Rattle.zr_link.proofs.Logged.{logged_up, tells_none, tells_same, tells_then}
-use Rattle.zr_link.proofs.Running.{enters_followed, enters_early}
+use Rattle.zr_link.proofs.Running.{enters_followed, enters_early, goes_map}
 use Rattle.zr_link.proofs.reader.enter.Goals as goal
 
 pub returns-in-Err-clause-entered : goal.returns-in-Err-clause-entered
@@ -42,11 +43,16 @@ returns-in-Ok-begin-clause-entered g c =
     (IsLate (g.S.Source.quiets c.args.source.now) (g.S.Source.quiets c.follow-end.new.source) z.heard (g.C.Clock.last c.args.clock.now) (g.C.Clock.last c.follow-end.new.clock))
     (g.P.Port.refuses_message c.args.port.now) (sight c.up.new.pass) (sight c.follow-end.new.pass)) same (record { came = on.0; goes = on.1; follows = on.2 }) in
     let down = c.leave.ensures.left in
+    let Gone = IsGone (λ m x. g.P.Port.refuses_message c.args.port.now (seen c.follow-end.new.pass) link m x) in
+    let goes = goes_map link c.follow-end.result _ (g.P.Port.answers_down c.args.port.now) _ Gone down.0 (sight c.follow-end.new.pass) (sight c.leave.new.pass)
+    (λ gone. c.follow-end.ensures.gone (subst (λ z. is_gone z ≡ true) (c.refusal.ensures ∙ c.because.ensures.refusal) gone)) down.1 in
+    let handed = subst (λ (z : SessionState). HandsOn (λ k. g.K.Sink.held k) (λ k. g.K.Sink.faults k) (c.without_close.new.self.fed.bytes.items ++ owed_bytes z) c.args.out.sink) c.without_close.ensures.same c.in-Ok-begin.ensures.handed in
     enters_followed c.args.opened.peer c.args.opened.outbox S waiting c.args.opened.fate c.follow-end.result (g.S.Source.left c.args.source.now) (g.S.Source.left c.follow-end.new.source)
     (IsLate (g.S.Source.quiets c.args.source.now) (g.S.Source.quiets c.follow-end.new.source) S.heard (g.C.Clock.last c.args.clock.now) (g.C.Clock.last c.follow-end.new.clock))
-    (λ owed. (answers : List ℕ) → c.args.intake.now.fed.bytes.items ≡ answers ++ close_with c.args.opened.fate → Unit {0}) _
-    (g.P.Port.refuses_up c.args.port.now) (g.P.Port.refuses_message c.args.port.now) (g.P.Port.refuses_down c.args.port.now)
-    c.args.pass.now c.up.new.pass c.follow-end.new.pass c.leave.new.pass link upon (record { came = followed.came; goes = followed.goes; follows = followed.follows }) c.leave.ensures.prefix down.0 down.1 down.2 refl
+    (λ owed. (answers : List ℕ) → c.args.intake.now.fed.bytes.items ≡ answers ++ close_with c.args.opened.fate → HandsOn (λ k. g.K.Sink.held k) (λ k. g.K.Sink.faults k) (answers ++ owed) c.args.out.sink)
+    (g.P.Port.refuses_up c.args.port.now) (g.P.Port.refuses_message c.args.port.now) (g.P.Port.refuses_down c.args.port.now) (g.P.Port.answers_down c.args.port.now)
+    c.args.pass.now c.up.new.pass c.follow-end.new.pass c.leave.new.pass link upon (record { came = followed.came; goes = followed.goes; follows = followed.follows }) c.leave.ensures.prefix down.0 goes down.2
+    (λ answers is. subst (λ z. HandsOn (λ k. g.K.Sink.held k) (λ k. g.K.Sink.faults k) (z ++ owed_bytes S) c.args.out.sink) (c.without_close.ensures.without answers is) handed)
 
 pub returns-in-Ok-begin-clause-unwritten : goal.returns-in-Ok-begin-clause-unwritten
 returns-in-Ok-begin-clause-unwritten g c is = absurd (subst IsStarted is c.follow-end.ensures.started)
@@ -82,12 +88,13 @@ returns-in-Err-begin-clause-entered g c =
     let added = c.in-Ok.ensures.added in
     let upon = adds_one c.args.pass.now c.up.new.pass (event.Up link c.args.opened.peer) (Some c.args.opened.outbox) None _ added (λ b x p. p.0) in
     let down = c.leave-in-Err-begin.ensures.left in
+    let goes = goes_map link _ _ (g.P.Port.answers_down c.args.port.now) _ ⊥ down.0 (sight c.up.new.pass) (sight c.leave-in-Err-begin.new.pass) (λ gone. cc) down.1 in
     let wrote = rw c.without_close.ensures.same at c.in-Err-begin.ensures.wrote in
     enters_early c.args.opened.peer c.args.opened.outbox c.args.intake.now.session (into_iter_items c.args.opened.messages) c.args.opened.fate _ (g.S.Source.left c.args.source.now)
-    (IsLate (g.S.Source.quiets c.args.source.now) (g.S.Source.quiets c.args.source.now) c.args.intake.now.session.heard (g.C.Clock.last c.args.clock.now) (g.C.Clock.last c.args.clock.now)) _
-    (g.P.Port.refuses_up c.args.port.now) (g.P.Port.refuses_message c.args.port.now) (g.P.Port.refuses_down c.args.port.now)
+    (IsLate (g.S.Source.quiets c.args.source.now) (g.S.Source.quiets c.args.source.now) c.args.intake.now.session.heard (g.C.Clock.last c.args.clock.now) (g.C.Clock.last c.args.clock.now))
+    (g.P.Port.refuses_up c.args.port.now) (g.P.Port.refuses_message c.args.port.now) (g.P.Port.refuses_down c.args.port.now) (g.P.Port.answers_down c.args.port.now)
     c.args.pass.now c.up.new.pass c.leave-in-Err-begin.new.pass link c.args.intake.now.fed.bytes.items c.without_close.new.self.fed.bytes.items (g.K.Sink.held c.args.out.sink) _ _
-    upon c.leave-in-Err-begin.ensures.prefix c.in-Err-begin.ensures.early down.0 down.1 down.2 c.without_close.ensures.without wrote
+    upon c.leave-in-Err-begin.ensures.prefix c.in-Err-begin.ensures.early down.0 goes down.2 c.without_close.ensures.without wrote
 
 pub returns-in-Err-clause-logged : goal.returns-in-Err-clause-logged
 returns-in-Err-clause-logged g c =
