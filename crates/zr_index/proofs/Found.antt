@@ -16,6 +16,7 @@ use Rattle.zr_index.specs.declared.node.Node.TheFolds.{fold_out-Node}
 use Rattle.zr_index.specs.Meeting.{meets_key}
 use Rattle.zr_index.specs.Pairs.{Pairs, pairs, pairs_step, behind, below, is_of}
 use Rattle.zr_index.specs.Walk.{onto, is_met, finds, finds_wild, finds_plain}
+use Rattle.zr_index.proofs.Tests.{any_and}
 
 -- ---- the place of two expressions
 
@@ -137,11 +138,6 @@ none_found cmp above marks key row none =
 any_map : {A B : Type 0} (t : B → Bool) (h : A → B) (xs : List A) → list_any t (map h xs) ≡ list_any (λ x. t (h x)) xs
 any_map t h [] = refl
 any_map t h (x ∷ xs) = ap (λ z. t (h x) || z) (any_map t h xs)
-
-any_and : {A : Type 0} (b : Bool) (t : A → Bool) (xs : List A) → list_any (λ x. b && t x) xs ≡ (b && list_any t xs)
-any_and true t xs = refl
-any_and false t [] = refl
-any_and false t (x ∷ xs) = any_and false t xs
 
 module _ {V K : Type 0} (text : K → List ℕ) (t : List (List ℕ) × V → Bool) (plain : Bool) where
   one_below : (b : Bool) (c : List ℕ) (ps : Pairs V) → list_any t (cond b (behind c ps) []) ≡ (b && list_any (λ p. t (c ∷ p.0, p.1)) ps)

@@ -1,4 +1,3 @@
-pub mod Adding
 pub mod ByKind
 pub mod Rows
 pub mod Telling

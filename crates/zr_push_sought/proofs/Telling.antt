@@ -1,27 +1,24 @@
 -- What an index of all declarations gives for a key tells who has declared what is sought.
-use Rattle.std.proofs.Common.{◌≡◌, ℕ, ◌+◌, ◌==◌, nat_lt, Bool, true, false, cond, not, ◌&&◌, ◌||◌, List, [], ◌∷◌, ◌++◌, ◌⊎◌, inl, inr, Ordering, Less, refl, sym, ap, ◌∙◌, arith}
+use Rattle.std.proofs.Common.{◌≡◌, ℕ, ◌==◌, Bool, true, false, cond, not, ◌&&◌, ◌||◌, List, [], ◌∷◌, ◌++◌, ◌⊎◌, inl, inr, Ordering, Less, refl, sym, ap, ◌∙◌}
 use Rattle.std.specs.Cmp.Lexicographic.{slice_cmp}
-use Rattle.std.specs.List.{flat_map, list_any, sum_by, AllByRecursion}
+use Rattle.std.specs.List.{list_any, AllByRecursion}
 use Rattle.std.specs.Ordering.{is_eq, nat_cmp}
-use Rattle.std.proofs.lemmas.Bool.{and_from, and_parts, lt-ltb, true≢false}
-use Rattle.std.proofs.lemmas.List.Concat.{flat_map-cons}
-use Rattle.std.proofs.lemmas.List.Folds.{list_any-append}
-use Rattle.std.proofs.lemmas.List.Sums.{sum_by-cons}
+use Rattle.std.proofs.lemmas.Bool.{and_from, and_parts, true≢false}
 use Rattle.std.proofs.lemmas.Map.Keys.{sorted_head, sorted_tail}
 use Rattle.zr_graph.specs.Record.{has}
 use Rattle.zr_id.specs.Zid.{is_named}
 use Rattle.zr_index.specs.Meeting.{AreMeeting, meets_key}
 use Rattle.zr_index.specs.Pairs.{Pairs, AreSame}
+use Rattle.zr_index.proofs.Tests.{any_and, any_flat, any_same, flipped, meets_is}
 use Rattle.zr_key.specs.Key.{chunks}
 use Rattle.zr_lists.specs.Ascending.{IsAscending}
 use Rattle.zr_lists.proofs.Elements.{each_in, in_each}
 use Rattle.zr_lists.proofs.Finds.{In, any_in, in_any, same_any}
 use Rattle.zr_lists.proofs.Numbers.{nat_eq_is}
-use Rattle.zr_lists.proofs.Order.{IsExactOrder, Comes, comes, is_itself, is_same, nat_order, name_order}
+use Rattle.zr_lists.proofs.Order.{Comes, comes, is_itself, nat_order, name_order}
 use Rattle.zr_lists.proofs.Truths.{same_test}
 use Rattle.zr_local.specs.declared.row.Row.{Row}
 use Rattle.zr_log.specs.declared.log.Log.{Log}
-use Rattle.zr_match.specs.Table.{texts_meet}
 use Rattle.zr_msg.specs.declared.decl.Decl.{Decl}
 use Rattle.zr_push_sought.specs.Found.{has_link, TellClients, TellSources}
 use Rattle.zr_push_sought.specs.Holders.{SeeksMeeting}
@@ -29,42 +26,7 @@ use Rattle.zr_push_sought.specs.Pairs.{is_kind, of_clients, of_log, of_sources, 
 use Rattle.zr_push_sought.specs.Sought.{has_declared, is_in_log, is_sought}
 use Rattle.zr_push_sought.specs.declared.sought.Sought.{Sought}
 
--- ---- tests of pairs
-
-module _ {V : Type 0} (t : List (List ℕ) × V → Bool) where
-  abbrev passing : List (List ℕ) × V → ℕ
-  passing p = cond (t p) 1 0
-
-  -- some pass where their number isn't zero
-  any_counts : (ps : Pairs V) → list_any t ps ≡ nat_lt 0 (sum_by passing ps)
-  any_counts [] = refl
-  any_counts (p ∷ ps) = by (t p) (any_counts ps) ∙ ap (nat_lt 0) (sym (sum_by-cons passing p ps))
-    where
-      by : (b : Bool) → list_any t ps ≡ nat_lt 0 (sum_by passing ps) → (b || list_any t ps) ≡ nat_lt 0 (cond b 1 0 + sum_by passing ps)
-      by true ih = sym (lt-ltb 0 (1 + sum_by passing ps) (omega arith))
-      by false ih = let e : sum_by passing ps ≡ 0 + sum_by passing ps = omega arith in ih ∙ ap (nat_lt 0) e
-
-  any_same : (ps qs : Pairs V) → AreSame ps qs → list_any t ps ≡ list_any t qs
-  any_same ps qs h = any_counts ps ∙ ap (nat_lt 0) (h passing) ∙ sym (any_counts qs)
-
-  any_flat : {X : Type 0} (g : X → Pairs V) (xs : List X) → list_any t (flat_map g xs) ≡ list_any (λ x. list_any t (g x)) xs
-  any_flat g [] = refl
-  any_flat g (x ∷ xs) =
-      ap (list_any t) (flat_map-cons g x xs)
-      ∙ list_any-append t (g x) (flat_map g xs)
-      ∙ ap (λ b. list_any t (g x) || b) (any_flat g xs)
-
--- a test of all alike is one in front
-any_and : {X : Type 0} (e : Bool) (p : X → Bool) (xs : List X) → list_any (λ x. e && p x) xs ≡ (e && list_any p xs)
-any_and true p xs = refl
-any_and false p [] = refl
-any_and false p (x ∷ xs) = any_and false p xs
-
 -- ---- one declaration
-
-texts_meet_is : (a b : List ℕ) → texts_meet a b ≡ meets_key b (chunks a)
-unfolding texts_meet
-texts_meet_is a b = refl
 
 any_if : {X : Type 0} (t : X → Bool) (x : X) (b : Bool) → list_any t (cond b (x ∷ []) []) ≡ cond b (t x || false) false
 any_if t x true = refl
@@ -87,16 +49,7 @@ one_pair : {V : Type 0} (cmp : V → V → Ordering) (sought : Sought) (key : Li
 one_pair cmp sought key seeks who v d =
     any_if (is_met cmp key v) (chunks d.key, who) (is_kind sought d.kind)
     ∙ turned (is_kind sought d.kind) (meets_key key (chunks d.key)) (is_eq (cmp who v))
-    ∙ ap (λ b. is_eq (cmp who v) && b) (sym (seeks d ∙ ap (λ b. is_kind sought d.kind && b) (texts_meet_is d.key key)))
-
--- ---- all of them
-
--- which of the two is named first doesn't matter
-flipped : {V : Type 0} (cmp : V → V → Ordering) → IsExactOrder cmp → (v w : V) → is_eq (cmp v w) ≡ is_eq (cmp w v)
-flipped {V = V} cmp o v w = same_test (is_eq (cmp v w)) (is_eq (cmp w v)) (λ e. back v w (is_same cmp o v w e)) (λ e. back w v (is_same cmp o w v e))
-  where
-    back : (a b : V) → a ≡ b → is_eq (cmp b a) ≡ true
-    back a b e = ap (λ (z : V). is_eq (cmp z a)) (sym e) ∙ is_itself cmp o a
+    ∙ ap (λ b. is_eq (cmp who v) && b) (sym (seeks d ∙ ap (λ b. is_kind sought d.kind && b) (meets_is d.key key)))
 
 -- ---- logs ascend, so each router has one
 

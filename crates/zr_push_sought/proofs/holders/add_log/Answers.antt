@@ -3,7 +3,7 @@ use Rattle.std.proofs.lemmas.List.{drop_all}
 use Rattle.zr_index.specs.Meeting.{held}
 use Rattle.zr_msg.specs.declared.decl.Decl.{Decl}
 use Rattle.zr_push_sought.specs.Pairs.{pair_of}
-use Rattle.zr_push_sought.proofs.Adding.{added_all, added_more}
+use Rattle.zr_index.proofs.Adding.{added_all, added_more}
 use Rattle.zr_push_sought.proofs.holders.add_log.Goals as goal
 
 pub loop-decl-preserved : goal.loop-decl-preserved

@@ -3,7 +3,7 @@ use Rattle.std.proofs.lemmas.List.{drop_all}
 use Rattle.zr_index.specs.Meeting.{held}
 use Rattle.zr_local.specs.declared.row.Row.{Row}
 use Rattle.zr_push_sought.specs.Pairs.{pair_of}
-use Rattle.zr_push_sought.proofs.Adding.{added_all, added_more}
+use Rattle.zr_index.proofs.Adding.{added_all, added_more}
 use Rattle.zr_push_sought.proofs.holders.clients_of.Goals as goal
 
 pub loop-row-preserved : goal.loop-row-preserved

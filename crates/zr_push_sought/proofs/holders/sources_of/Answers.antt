@@ -3,7 +3,7 @@ use Rattle.std.proofs.lemmas.List.{drop_all}
 use Rattle.zr_index.specs.Meeting.{held}
 use Rattle.zr_log.specs.declared.log.Log.{Log}
 use Rattle.zr_push_sought.specs.Pairs.{of_log}
-use Rattle.zr_push_sought.proofs.Adding.{added_all, added_more}
+use Rattle.zr_index.proofs.Adding.{added_all, added_more}
 use Rattle.zr_push_sought.proofs.holders.sources_of.Goals as goal
 
 pub loop-log-preserved : goal.loop-log-preserved
