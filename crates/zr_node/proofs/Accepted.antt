@@ -17,7 +17,7 @@ use Rattle.zr_node.specs.Done.{Part, IsLeft}
 use Rattle.zr_node.specs.Steps.{told_part, news_to}
 use Rattle.zr_node.proofs.Done.{IsFirst}
 use Rattle.zr_node.proofs.Quiet.{no_new_children}
-use Rattle.zr_node.proofs.Remembering.{me_stays}
+use Rattle.zr_node.proofs.Remembering.{me_record}
 use Rattle.zr_node.proofs.Retold.{silent}
 
 pub older_is : (b : Bool) → Old ≡ cond b Newer Old → b ≡ false
@@ -68,7 +68,7 @@ module _ (n : NodeState) (from : ℕ) (told : RecordState) where
   told_me = by (leads_to_router n.links from)
     where
       by : (router : Bool) → (cond router (after_record n.base told) n.base).me ≡ n.base.me
-      by true = me_stays n.base told
+      by true = me_record n.base told
       by false = refl
 
   -- the links are still those of the router
@@ -76,7 +76,7 @@ module _ (n : NodeState) (from : ℕ) (told : RecordState) where
   still_of first now links same e right is =
       let f : now ≡ with_base n (after_record n.base told) = e ∙ ap (λ (m : NodeState). with_base m (after_record m.base told)) same in
       record {
-        right = subst (λ (me : List ℕ). AreLinks me n.links) (me_stays n.base told) (subst (λ (m : NodeState). AreLinks m.base.me m.links) f right);
+        right = subst (λ (me : List ℕ). AreLinks me n.links) (me_record n.base told) (subst (λ (m : NodeState). AreLinks m.base.me m.links) f right);
         same = is ∙ ap (λ (m : NodeState). m.links) f;
       }
 

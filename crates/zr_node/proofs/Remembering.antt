@@ -15,12 +15,15 @@ use Rattle.zr_node.specs.Whole.{IsWhole}
 pub routes_stay : (routes : Routes) (t : TableState) (local : LocalState) → local.rows ≡ t.rows → AreRoutes routes t
     → AreRoutes routes (record { links = t.links; base = t.base; rows = local.rows; clients = local.clients; known = t.known })
 routes_stay routes t local e h =
-    subst (λ (rows : List Row). AreRoutes routes (record { links = t.links; base = t.base; rows = rows; clients = local.clients; known = t.known })) (sym e)
-    (h.0, IfSome_then routes.subscribers.holders h.1 (λ holders all. record { in_order = all.in_order; clients = all.clients; sources = all.sources }))
+    subst (λ (rows : List Row). AreRoutes routes (record { links = t.links; base = t.base; rows = rows; clients = local.clients; known = t.known })) (sym e) (
+      h.0,
+      IfSome_then routes.subscribers.holders h.1 (λ holders all. record { in_order = all.in_order; clients = all.clients; sources = all.sources }),
+      IfSome_then routes.queryables.holders h.2 (λ holders all. record { in_order = all.in_order; clients = all.clients; sources = all.sources }),
+    )
 
 -- a record that is kept leaves the base that of its router
-pub me_stays : (b : BaseState) (r : RecordState) → (after_record b r).me ≡ b.me
-me_stays b r = by (is_newer b r)
+pub me_record : (b : BaseState) (r : RecordState) → (after_record b r).me ≡ b.me
+me_record b r = by (is_newer b r)
   where
     by : (newer : Bool) → (cond newer (kept b r) b).me ≡ b.me
     by true = refl

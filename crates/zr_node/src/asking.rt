@@ -20,7 +20,6 @@ use zr_node_spec::tables::TablesView;
 use zr_pend::pending::Pending;
 use zr_pend_spec::branch::Asker;
 use zr_push::push::tree_of;
-use zr_push::route::Route;
 use zr_push::routes::Routes;
 use zr_push_sought::sought::sought_by;
 use zr_query::asking::{RequestError, refuse, request};
@@ -118,7 +117,7 @@ fn request_along(
             alloc, route, pending, from, tree, target, content, latest, out,
         );
     }
-    let route = Route::of(alloc, tables, tree, sought, key)?;
+    let route = routes.work_out(alloc, tables, tree, sought, key)?;
     request(
         alloc, &route, pending, from, tree, target, content, latest, out,
     )?;

@@ -48,7 +48,7 @@ pub fn push(
     if let Some(route) = routes.find(tree, Sought::Subscribers, key) {
         return send_along(route.stops(), link, tree, content, out);
     }
-    let route = routes.work_out(alloc, tables, tree, key)?;
+    let route = routes.work_out(alloc, tables, tree, Sought::Subscribers, key)?;
     send_along(route.stops(), link, tree, content, out)?;
     routes.remember(alloc, tree, Sought::Subscribers, key, route)
 }

@@ -5,6 +5,7 @@ ghost use Rattle.zr_node_spec.specs.Queries.{tree_for};
 ghost use Rattle.zr_node_spec.specs.Tables.{TableState};
 ghost use Rattle.zr_push_sought.specs.Found.{TellClients};
 ghost use Rattle.zr_push_sought.specs.Holders.{AreFound};
+ghost use Rattle.zr_push_sought.specs.Sought.{by_meeting};
 ghost use Rattle.zr_push.specs.Route.{goes_on, is_stop, route_of, stop_at, stops_from};
 
 use std::alloc::{AllocError, Global};
@@ -79,7 +80,7 @@ impl Route {
         Route::by(alloc, tables, tree, None, sought, key)
     }
 
-    /// The same, where it may be known who has declared that. Otherwise all declarations are looked at.
+    /// The same, where it may be known who has declared what meets the key. Otherwise all declarations are looked at.
     pub fn by(
         alloc: Global,
         tables: &TablesView,
@@ -88,7 +89,7 @@ impl Route {
         sought: Sought,
         key: &KeyExpr,
     ) -> Result<Route, AllocError>
-        requires { IfSome found (λ f. AreFound tables.now sought key.now f.now) }
+        requires { IfSome found (λ f. AreFound tables.now (by_meeting sought) key.now f.now) }
         ensures { IfOk result (λ r. r ≡ route_of tables.now tree sought key.now) }
     {
         let hops = Hops::to(alloc, tables, tree, found, sought, key)?;
@@ -137,7 +138,7 @@ fn stops_on(
     sought: Sought,
     key: &KeyExpr,
 ) -> Result<Vec<RouteLink>, AllocError>
-    requires { IfSome found (λ f. TellClients sought key.now tables.now.rows f.now.clients.items) }
+    requires { IfSome found (λ f. TellClients (by_meeting sought) key.now tables.now.rows f.now.clients.items) }
     ensures { IfOk result (λ v. v.items ≡ map (λ l. stop_at l) (filter (λ l. is_stop tables.now hops.now sought key.now l l.peer.role) tables.now.links)) }
 {
     let links = tables.links();
@@ -159,7 +160,7 @@ fn is_stop(
     key: &KeyExpr,
     link: &LinkPeer,
 ) -> bool
-    requires { IfSome found (λ f. TellClients sought key.now rows.old f.now.clients.items) }
+    requires { IfSome found (λ f. TellClients (by_meeting sought) key.now rows.old f.now.clients.items) }
     ensures kept { rows.new ≡ rows.old }
     ensures stop { (t : TableState) → rows.old ≡ t.rows → result ≡ is_stop t hops.now sought key.now link.now link.now.peer.role }
 {

@@ -10,7 +10,7 @@ ghost use Rattle.zr_push_sought.specs.declared.sought.Sought.{Sought};
 ghost use Rattle.zr_push.specs.Route.{route_of};
 
 use crate::route::Route;
-use crate::searches::Searches;
+use crate::searches::KeySearches;
 use std::alloc::{AllocError, Global};
 use std::collections::BTreeMap;
 use zr_id::zid::Zid;
@@ -51,7 +51,8 @@ impl Remembered {
 pub struct Routes {
     // by a number that is worked out from tree, what is sought and key: a hint, which is checked at the route
     known: BTreeMap<u64, Remembered>,
-    subscribers: Searches,
+    subscribers: KeySearches,
+    queryables: KeySearches,
     ghost bounded: { btree_map_len known ≤ 4096 },
 }
 
@@ -66,7 +67,8 @@ impl Routes {
     {
         Routes {
             known: BTreeMap::new(alloc),
-            subscribers: Searches::new(),
+            subscribers: KeySearches::new(),
+            queryables: KeySearches::new(),
         }
     }
 
@@ -76,22 +78,28 @@ impl Routes {
     {
         self.known.clear();
         self.subscribers.clear();
+        self.queryables.clear();
     }
 
-    /// The route in a tree to the subscribers for a key, worked out.
+    /// The route in a tree to what is sought for a key, worked out.
     pub fn work_out(
         &mut self,
         alloc: Global,
         tables: &TablesView,
         tree: Zid,
+        sought: Sought,
         key: &KeyExpr,
     ) -> Result<Route, AllocError>
         requires { AreRoutes self.old tables.now }
         ensures routes { AreRoutes self.new tables.now }
-        ensures route { IfOk result (λ r. r ≡ route_of tables.now tree Sought.Subscribers key.now) }
+        ensures route { IfOk result (λ r. r ≡ route_of tables.now tree sought key.now) }
     {
-        self.subscribers
-            .route(alloc, tables, tree, Sought::Subscribers, key)
+        match sought {
+            Sought::Subscribers => self.subscribers.route(alloc, tables, tree, sought, key),
+            Sought::Queryables | Sought::Complete => {
+                self.queryables.route(alloc, tables, tree, sought, key)
+            }
+        }
     }
 
     /// The route in a tree to what is sought for a key, if it is remembered.

@@ -1,9 +1,10 @@
-//! `Searches`: routes to what is sought that are worked out by the same tables.
+//! `KeySearches`: routes to what is sought that are worked out by the same tables.
 
 ghost use Rattle.std.specs.Prelude.{◌≡◌, IfOk};
 ghost use Rattle.zr_node_spec.specs.Tables.{TableState};
 ghost use Rattle.zr_push.specs.Route.{route_of};
-ghost use Rattle.zr_push_sought.specs.Holders.{HoldAll, SeeksMeeting};
+ghost use Rattle.zr_push_sought.specs.Holders.{HoldAll};
+ghost use Rattle.zr_push_sought.specs.Sought.{by_meeting};
 ghost use Rattle.zr_push_sought.specs.declared.sought.Sought.{Sought};
 
 use crate::route::Route;
@@ -18,22 +19,22 @@ use zr_push_sought::sought::Sought;
 /// declarations, and together they cost about what the index does. So tables that change often get none.
 const SEARCHES_BEFORE_INDEX: u32 = 32;
 
-/// The searches for routes to one thing that is sought, by the same tables.
+/// The searches for routes by the same tables, to subscribers or to queryables.
 #[derive(Drop)]
-pub struct Searches {
+pub struct KeySearches {
     // how many there were before the index
     made: u32,
     holders: Option<Holders>,
 }
 
-impl Searches {
+impl KeySearches {
     ghost use Rattle.zr_push.specs.Searches.{AreSearches};
 
     /// None were made.
-    pub fn new() -> Searches
+    pub fn new() -> KeySearches
         ensures { (sought : Sought) (t : TableState) → AreSearches result sought t }
     {
-        Searches {
+        KeySearches {
             made: 0,
             holders: None,
         }
@@ -43,10 +44,10 @@ impl Searches {
     pub fn clear(&mut self)
         ensures { (sought : Sought) (t : TableState) → AreSearches self.new sought t }
     {
-        *self = Searches::new();
+        *self = KeySearches::new();
     }
 
-    /// The route in a tree to what is sought for a key, worked out. A declaration is sought if it is of some kind and meets the key.
+    /// The route in a tree to what is sought for a key, worked out.
     pub fn route(
         &mut self,
         alloc: Global,
@@ -55,12 +56,11 @@ impl Searches {
         sought: Sought,
         key: &KeyExpr,
     ) -> Result<Route, AllocError>
-        requires searches { AreSearches self.old sought tables.now }
-        requires meeting { SeeksMeeting sought key.now }
-        ensures searches { AreSearches self.new sought tables.now }
+        requires { AreSearches self.old (by_meeting sought) tables.now }
+        ensures searches { AreSearches self.new (by_meeting sought) tables.now }
         ensures route { IfOk result (λ r. r ≡ route_of tables.now tree sought key.now) }
     {
-        self.prepare(alloc, tables, sought);
+        self.prepare(alloc, tables, sought.by_meeting());
         match &self.holders {
             Some(holders) => route_by(alloc, tables, tree, holders, sought, key),
             None => Route::of(alloc, tables, tree, sought, key),
@@ -84,7 +84,7 @@ impl Searches {
     }
 }
 
-// The route in a tree to what is sought for a key, by the index.
+// The route in a tree to what is sought for a key, by the index, or by all declarations where there is no memory to read it.
 fn route_by(
     alloc: Global,
     tables: &TablesView,
@@ -93,10 +93,11 @@ fn route_by(
     sought: Sought,
     key: &KeyExpr,
 ) -> Result<Route, AllocError>
-    requires all { HoldAll sought tables.now holders.now }
-    requires meeting { SeeksMeeting sought key.now }
+    requires { HoldAll (by_meeting sought) tables.now holders.now }
     ensures { IfOk result (λ r. r ≡ route_of tables.now tree sought key.now) }
 {
-    let found = holders.find(alloc, key)?;
-    Route::by(alloc, tables, tree, Some(&found), sought, key)
+    match holders.find(alloc, key) {
+        Ok(found) => Route::by(alloc, tables, tree, Some(&found), sought, key),
+        Err(_) => Route::of(alloc, tables, tree, sought, key),
+    }
 }

@@ -20,6 +20,13 @@ is_sought Subscribers key d = is_for key d
 is_sought Queryables key d = can_answer target.Best key d
 is_sought Complete key d = can_answer target.Complete key d
 
+-- what is found by meeting the key alone, and has all that is sought: a complete queryable whose expression covers the key is one whose
+-- expression meets it
+abbrev pub by_meeting : Sought → Sought
+by_meeting Subscribers = Subscribers
+by_meeting Queryables = Queryables
+by_meeting Complete = Queryables
+
 -- a kind stands before another in the order of kinds
 abbrev pub is_lower : Kind → Kind → Bool
 is_lower one other = nat_lt (kind_rank one) (kind_rank other)

@@ -8,7 +8,7 @@ ghost use Rattle.zr_node_spec.specs.Samples.{is_subscriber};
 ghost use Rattle.zr_graph.specs.Record.{has};
 ghost use Rattle.zr_push_sought.specs.Found.{TellClients};
 ghost use Rattle.zr_push_sought.specs.Pairs.{is_kind};
-ghost use Rattle.zr_push_sought.specs.Sought.{is_sought, is_lower, has_declared, is_in_log};
+ghost use Rattle.zr_push_sought.specs.Sought.{by_meeting, is_sought, is_lower, has_declared, is_in_log};
 ghost use Rattle.zr_push_sought.specs.declared.sought.Sought.{Sought};
 ghost use Rattle.zr_log_set.specs.Decls.{IsSet};
 ghost use Rattle.zr_msg.specs.Decl.{kind_rank};
@@ -24,7 +24,7 @@ use zr_match::{covers, meets};
 use zr_msg::decl::{Decl, Kind};
 use zr_node_spec::kinds::is_complete;
 
-/// Whether the client of a link has declared it. Where that was found for all it isn't looked for again.
+/// Whether the client of a link has declared it. Where it is known who has declared what meets the key, no other client is looked at.
 pub fn has_declared(
     rows: &mut ClientRows,
     found: Option<&Found>,
@@ -32,13 +32,25 @@ pub fn has_declared(
     sought: Sought,
     key: &KeyExpr,
 ) -> bool
-    requires { IfSome found (λ f. TellClients sought key.now rows.old f.now.clients.items) }
+    requires { IfSome found (λ f. TellClients (by_meeting sought) key.now rows.old f.now.clients.items) }
     ensures kept { rows.new ≡ rows.old }
     ensures has { result ≡ has_declared rows.old link.0 sought key.now }
 {
     match found {
-        Some(found) => found.has_client(link),
+        Some(found) => found.has_client(link) && has_row_that_meets(rows, link, sought, key),
         None => has_row(rows, link, sought, key),
+    }
+}
+
+// The same of a client that has declared what meets the key: only of complete queryables more is asked.
+fn has_row_that_meets(rows: &mut ClientRows, link: LinkNo, sought: Sought, key: &KeyExpr) -> bool
+    requires { has_declared rows.old link.0 (by_meeting sought) key.now ≡ true }
+    ensures kept { rows.new ≡ rows.old }
+    ensures has { result ≡ has_declared rows.old link.0 sought key.now }
+{
+    match sought {
+        Sought::Subscribers | Sought::Queryables => true,
+        Sought::Complete => has_row(rows, link, sought, key),
     }
 }
 
@@ -51,12 +63,23 @@ fn has_row(rows: &mut ClientRows, link: LinkNo, sought: Sought, key: &KeyExpr) -
 
 /// Whether the clients of a log's router have. Declarations of another kind are not looked at.
 pub(crate) fn is_in_log(log: &Log, found: Option<&Found>, sought: Sought, key: &KeyExpr) -> bool
-    requires { IfSome found (λ f. has f.now.sources.items log.now.source ≡ is_in_log sought key.now log.now) }
+    requires { IfSome found (λ f. has f.now.sources.items log.now.source ≡ is_in_log (by_meeting sought) key.now log.now) }
     ensures { result ≡ is_in_log sought key.now log.now }
 {
     match found {
-        Some(found) => found.has_source(&log.source),
+        Some(found) => found.has_source(&log.source) && has_decl_that_meets(log, sought, key),
         None => has_decl(log, sought, key),
+    }
+}
+
+// The same of a log that has what meets the key.
+fn has_decl_that_meets(log: &Log, sought: Sought, key: &KeyExpr) -> bool
+    requires { is_in_log (by_meeting sought) key.now log.now ≡ true }
+    ensures { result ≡ is_in_log sought key.now log.now }
+{
+    match sought {
+        Sought::Subscribers | Sought::Queryables => true,
+        Sought::Complete => has_decl(log, sought, key),
     }
 }
 

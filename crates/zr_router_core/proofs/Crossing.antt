@@ -10,7 +10,7 @@ use Rattle.zr_log.proofs.known.Known.TheSendSync.{the_send as known_send}
 use Rattle.zr_local.proofs.local.Local.TheSendSync.{the_send as local_send}
 use Rattle.zr_pend.proofs.pending.Pending.TheSendSync.{the_send as pending_send}
 use Rattle.zr_push_sought.specs.contracts.holders.Holders.{the_row as holders}
-use Rattle.zr_push.specs.contracts.searches.Searches.{the_field as searches}
+use Rattle.zr_push.specs.contracts.searches.KeySearches.{the_field as searches}
 use Rattle.zr_push.proofs.routes.Remembered.TheSendSync.{the_send as remembered_send}
 use Rattle.zr_push.specs.contracts.routes.Routes.{the_field as routes}
 use Rattle.zr_node.proofs.links.Links.TheSendSync.{the_send as links_send}

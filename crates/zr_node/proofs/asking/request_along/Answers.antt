@@ -27,7 +27,7 @@ request-requires-clause-apart c =
 pub request-requires-2-clause-apart : goal.request-requires-2-clause-apart
 request-requires-2-clause-apart c =
     route_differs c.args.tables.now c.args.from.link.0 c.args.tree c.args.target c.args.content.now.key c.in_ok-route.route c.requires.numbered
-    (is_route c.args.tables.now c.args.tree c.args.target c.sought_by-sought.result c.key-key.result.now c.args.content.now.key c.in_ok-route.route c.in_ok-route.ensures c.sought_by-sought.ensures c.key-key.ensures)
+    (is_route c.args.tables.now c.args.tree c.args.target c.sought_by-sought.result c.key-key.result.now c.args.content.now.key c.in_ok-route.route c.in_ok-route.ensures.route c.sought_by-sought.ensures c.key-key.ensures)
 
 pub returns-in-Some-clause-sends : goal.returns-in-Some-clause-sends
 returns-in-Some-clause-sends c = λ named at.
@@ -69,25 +69,25 @@ pub returns-clause-sends : goal.returns-clause-sends
 returns-clause-sends c = λ named at.
     c.in_ok-request.ensures.sends c.args.tables.now named
     (is_route_of c.args.tables.now c.args.from.link.0 named c.args.tree c.args.target c.sought_by-sought.result c.key-key.result.now c.args.content.now.key c.in_ok-route.route c.requires.numbered at
-    c.in_ok-route.ensures c.sought_by-sought.ensures c.key-key.ensures)
+    c.in_ok-route.ensures.route c.sought_by-sought.ensures c.key-key.ensures)
 
 pub returns-clause-rows : goal.returns-clause-rows
 returns-clause-rows c = λ named at.
     c.in_ok-request.ensures.rows c.args.tables.now named
     (is_route_of c.args.tables.now c.args.from.link.0 named c.args.tree c.args.target c.sought_by-sought.result c.key-key.result.now c.args.content.now.key c.in_ok-route.route c.requires.numbered at
-    c.in_ok-route.ensures c.sought_by-sought.ensures c.key-key.ensures)
+    c.in_ok-route.ensures.route c.sought_by-sought.ensures c.key-key.ensures)
 
 pub returns-clause-held : goal.returns-clause-held
 returns-clause-held c = λ named at.
     c.in_ok-request.ensures.held c.args.tables.now named
     (is_route_of c.args.tables.now c.args.from.link.0 named c.args.tree c.args.target c.sought_by-sought.result c.key-key.result.now c.args.content.now.key c.in_ok-route.route c.requires.numbered at
-    c.in_ok-route.ensures c.sought_by-sought.ensures c.key-key.ensures)
+    c.in_ok-route.ensures.route c.sought_by-sought.ensures c.key-key.ensures)
 
 pub returns-clause-room : goal.returns-clause-room
 returns-clause-room c = λ named at.
     c.in_ok-request.ensures.room c.args.tables.now named
     (is_route_of c.args.tables.now c.args.from.link.0 named c.args.tree c.args.target c.sought_by-sought.result c.key-key.result.now c.args.content.now.key c.in_ok-route.route c.requires.numbered at
-    c.in_ok-route.ensures c.sought_by-sought.ensures c.key-key.ensures)
+    c.in_ok-route.ensures.route c.sought_by-sought.ensures c.key-key.ensures)
 
 pub returns-in_err-route-clause-prefix : goal.returns-in_err-route-clause-prefix
 returns-in_err-route-clause-prefix c = λ named at.
@@ -99,19 +99,19 @@ returns-in_err-remember-clause-prefix c = λ named at.
     let p = err_from_is_err_and c.from_residual-in_err-remember.result c.from_residual-in_err-remember.ensures.1 in
     rw p.1 (all_told _ _ _ (c.in_ok-request.ensures.sends c.args.tables.now named
     (is_route_of c.args.tables.now c.args.from.link.0 named c.args.tree c.args.target c.sought_by-sought.result c.key-key.result.now c.args.content.now.key c.in_ok-route.route c.requires.numbered at
-    c.in_ok-route.ensures c.sought_by-sought.ensures c.key-key.ensures)))
+    c.in_ok-route.ensures.route c.sought_by-sought.ensures c.key-key.ensures)))
 
 pub returns-in_err-request-clause-prefix : goal.returns-in_err-request-clause-prefix
 returns-in_err-request-clause-prefix c = λ named at.
     let p = err_from_is_err_and c.from_residual-in_err-request.result c.from_residual-in_err-request.ensures.1 in
     rw p.1 (c.in_err-request.ensures.prefix c.args.tables.now named
     (is_route_of c.args.tables.now c.args.from.link.0 named c.args.tree c.args.target c.sought_by-sought.result c.key-key.result.now c.args.content.now.key c.in_ok-route.route c.requires.numbered at
-    c.in_ok-route.ensures c.sought_by-sought.ensures c.key-key.ensures))
+    c.in_ok-route.ensures.route c.sought_by-sought.ensures c.key-key.ensures))
 
 pub returns-in_err-request-clause-full : goal.returns-in_err-request-clause-full
 returns-in_err-request-clause-full c = λ named at worn.
     let p = err_from_is_err_and c.from_residual-in_err-request.result c.from_residual-in_err-request.ensures.1 in
     c.in_err-request.ensures.full c.args.tables.now named
     (is_route_of c.args.tables.now c.args.from.link.0 named c.args.tree c.args.target c.sought_by-sought.result c.key-key.result.now c.args.content.now.key c.in_ok-route.route c.requires.numbered at
-    c.in_ok-route.ensures c.sought_by-sought.ensures c.key-key.ensures)
+    c.in_ok-route.ensures.route c.sought_by-sought.ensures c.key-key.ensures)
     (sym (p.1 ∙ ap Err p.2) ∙ worn)

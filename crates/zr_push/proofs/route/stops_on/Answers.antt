@@ -5,6 +5,7 @@ use Rattle.zr_msg.specs.declared.peer.LinkPeer.{LinkPeer}
 use Rattle.zr_lists.proofs.Prefixes.{along_picked, along_passed}
 use Rattle.zr_push.specs.declared.route.RouteLink.{RouteLink}
 use Rattle.zr_push_sought.specs.Found.{TellClients}
+use Rattle.zr_push_sought.specs.Sought.{by_meeting}
 use Rattle.zr_push.specs.Route.{is_stop, stop_at}
 use Rattle.zr_push.proofs.route.stops_on.Goals.{then-is_stop+in_ok-push, else-is_stop}
 use Rattle.zr_push.proofs.route.stops_on.Goals as goal
@@ -12,7 +13,7 @@ use Rattle.zr_push.proofs.route.stops_on.Goals as goal
 pub is_stop-requires : goal.is_stop-requires
 is_stop-requires c =
     IfSome_then c.args.found c.requires
-    (λ f h. subst (λ (rows : List Row). TellClients c.args.sought c.args.key.now rows f.now.clients.items) (sym c.loop-link.invariant.rows) h)
+    (λ f h. subst (λ (rows : List Row). TellClients (by_meeting c.args.sought) c.args.key.now rows f.now.clients.items) (sym c.loop-link.invariant.rows) h)
 
 pub loop-link-preserved : goal.loop-link-preserved
 loop-link-preserved c =

@@ -6,7 +6,7 @@ use Rattle.zr_graph.specs.Record.{has}
 use Rattle.zr_id.specs.Zid.{is_named}
 use Rattle.zr_log.specs.declared.log.Log.{Log}
 use Rattle.zr_push_sought.specs.Hops.{is_way_to}
-use Rattle.zr_push_sought.specs.Sought.{is_in_log}
+use Rattle.zr_push_sought.specs.Sought.{by_meeting, is_in_log}
 use Rattle.zr_push_sought.proofs.Ways.{regroup, at_place}
 use Rattle.zr_tree.specs.Way.{WayState}
 use Rattle.zr_push_sought.proofs.hops.hops_to.Goals as goal
@@ -24,7 +24,7 @@ pub hop_to-requires : goal.hop_to-requires
 hop_to-requires c =
     IfSome_then c.args.found c.requires
     (λ f all other.
-    at_place (λ l. is_named l.source c.args.tables.now.base.me ≡ false → has f.now.sources.items l.source ≡ is_in_log c.args.sought c.args.key.now l) c.args.logs.now c.loop-log.log-index c.log-item.result (omega arith) c.log-item.is all
+    at_place (λ l. is_named l.source c.args.tables.now.base.me ≡ false → has f.now.sources.items l.source ≡ is_in_log (by_meeting c.args.sought) c.args.key.now l) c.args.logs.now c.loop-log.log-index c.log-item.result (omega arith) c.log-item.is all
     (ap (λ (w : WayState). is_named c.log-item.result.source w.at) (sym c.loop-log.invariant.way) ∙ other))
 
 pub loop-log-preserved : goal.loop-log-preserved

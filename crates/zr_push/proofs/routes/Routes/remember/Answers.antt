@@ -9,4 +9,5 @@ returns c = λ t right is.
       put_right t c.make_room.new.self.known c.insert.new.self _ _ c.in_ok-insert.ensures.updates room.0
           (is ∙ ap (λ (key : List ℕ). route_of t c.args.tree c.args.sought key) (sym c.in_ok-key.ensures)),
       room.1,
+      room.2,
     )
