@@ -2,7 +2,7 @@ use Rattle.std.proofs.Common.{List, get_or, length, ap, ◌∙◌, arith}
 use Rattle.std.proofs.lemmas.List.{drop_all}
 use Rattle.zr_index.specs.Meeting.{held}
 use Rattle.zr_local.specs.declared.interest.Interest.{Interest}
-use Rattle.zr_push_sought.proofs.Adding.{added_all, added_more}
+use Rattle.zr_index.proofs.Adding.{added_all, added_more}
 use Rattle.zr_told_interested.specs.Keys.{pair_of}
 use Rattle.zr_told_interested.proofs.by_key.add_client.Goals as goal
 

@@ -2,7 +2,7 @@ use Rattle.std.proofs.Common.{arith}
 use Rattle.std.proofs.lemmas.List.{drop_all}
 use Rattle.zr_index.specs.Meeting.{held}
 use Rattle.zr_local.specs.declared.interest.ClientInterests.{ClientInterests}
-use Rattle.zr_push_sought.proofs.Adding.{added_all, added_more}
+use Rattle.zr_index.proofs.Adding.{added_all, added_more}
 use Rattle.zr_told_interested.specs.Keys.{pairs_on}
 use Rattle.zr_told_interested.proofs.by_key.keyed.Goals as goal
 
