@@ -16,6 +16,7 @@ use Rattle.zr_push.specs.contracts.routes.Routes.{the_field as routes}
 use Rattle.zr_node.proofs.links.Links.TheSendSync.{the_send as links_send}
 use Rattle.zr_node.specs.contracts.node.Node.{the_row as node}
 use Rattle.zr_told.proofs.told.Told.TheSendSync.{the_send as told_send}
+use Rattle.zr_told_interested.specs.contracts.by_key.ByKey.{the_field as by_key}
 use Rattle.zr_router_core.specs.contracts.hub.Hub.{the_row as hub}
 
 pub holders_send : IsSend holders
@@ -30,5 +31,8 @@ routes_send = search (searches_send, remembered_send, maps_cross, crosses, senda
 pub node_send : IsSend node
 node_send = search (links_send, base_send, local_send, known_send, pending_send, family_send, trees_send, routes_send, maps_cross, crosses, sendable) depth 60 fits 20000
 
+pub by_key_send : IsSend by_key.row
+by_key_send = search (index_crosses, maps_cross, crosses, sendable) depth 60 fits 20000
+
 pub hub_send : IsSend hub
-hub_send = search (node_send, told_send, maps_cross, crosses, sendable) depth 60 fits 20000
+hub_send = search (node_send, told_send, by_key_send, index_crosses, maps_cross, crosses, sendable) depth 60 fits 20000

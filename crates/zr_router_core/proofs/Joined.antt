@@ -26,7 +26,7 @@ use Rattle.zr_told_spec.specs.Rows.{Maps, map_on, one_lacks_ids, others, IsAsWan
 use Rattle.zr_told_spec.specs.Told.{ToldMap}
 use Rattle.zr_told_spec.specs.declared.place.Place.{Place}
 use Rattle.zr_told_spec.proofs.Events.{nothing_told}
-use Rattle.zr_node.proofs.Refusals.{not_memory}
+use Rattle.zr_node.proofs.Refusals.{not_memory, not_spent}
 use Rattle.zr_node.proofs.Retold.{told_both, prefix_first, prefix_second}
 use Rattle.zr_router_core.specs.Done.{hub_of, hub_refusal_of, said_on, IsHandled, IsNodeDone, IsToldAll, IsToldOf, IsDoneBoth, IsRefusedBoth, IsDone, answer_of, have_ids}
 use Rattle.zr_router_core.specs.Places.{AreKeys, changed_places, is_quiet}
@@ -255,6 +255,21 @@ error why = Err why
 
 same_error : (x y : NodeError) → error x ≡ error y → x ≡ y
 same_error x y h = cc
+
+-- what is refused is neither that memory ran out nor that it ran out before
+pub refused_else : (n : NodeState) (told : Maps) (event : Event) (why : NodeError) → hub_refuses (hub_of n told) event ≡ Some why → (error why ≡ error e.NoMemory → ⊥) × (error why ≡ error e.Spent → ⊥)
+refused_else n told event why h = (
+  λ k. never e.NoMemory (not_memory n event) (λ f. cc) (h ∙ ap Some (same_error why e.NoMemory k)),
+  λ k. never e.Spent (not_spent n event) (λ f. cc) (h ∙ ap Some (same_error why e.Spent k)),
+)
+  where
+    never : (other : NodeError) → (refuses n event ≡ Some other → ⊥) → (Some e.Worn ≡ Some other → ⊥) → hub_refuses (hub_of n told) event ≡ Some other → ⊥
+    never other table worn f = by (refuses n event) refl (one_lacks_ids (tables (after n event)) (after n event).clients) f
+      where
+        by : (o : Option NodeError) → refuses n event ≡ o → (b : Bool) → option_or o (cond b (Some e.Worn) None) ≡ Some other → ⊥
+        by None r true g = worn g
+        by None r false g = none-some other g
+        by (Some x) r b g = table (r ∙ g)
 
 -- ---- a router with its clients, where memory hasn't run out: `self` is what contracts see of it
 

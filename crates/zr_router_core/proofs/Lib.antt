@@ -9,3 +9,4 @@ pub mod Bounds
 pub mod Joined
 pub mod Calm
 pub mod Crossing
+pub mod Lasting

@@ -4,3 +4,4 @@ pub mod Ready
 pub mod Room
 pub mod Calm
 pub mod Done
+pub mod Lasting

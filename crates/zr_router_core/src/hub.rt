@@ -1,6 +1,6 @@
 //! `Hub`: a router with its clients, and what it does with each event.
 
-ghost use Rattle.std.specs.Prelude.{◌≡◌, ◌<◌, ◌^◌, ◌↔◌, true, Some, List, length, IfOk, OnOk};
+ghost use Rattle.std.specs.Prelude.{◌≡◌, ◌<◌, ◌^◌, ◌↔◌, not, true, Some, List, length, IfOk, OnOk};
 ghost use Rattle.std.specs.Option.{option_map};
 ghost use Rattle.zr_local.specs.Clients.{AreByLink};
 ghost use Rattle.zr_local.specs.Rows.{AreInOrder};
@@ -27,11 +27,13 @@ use zr_msg::msg::Msg;
 use zr_msg::peer::{LinkPeer, Peer};
 use zr_node::node::Node;
 use zr_told::told::Told;
+use zr_told_interested::interested::Interested;
 
 /// A router, and of what each of its clients was told.
 pub struct Hub {
     node: Node,
     told: Told,
+    interested: Interested,
     // memory ran out at an earlier event, in the router or where its clients were told
     spent: bool,
 }
@@ -42,6 +44,7 @@ impl Drop for Hub {
         let Self {
             node: _node,
             told: _told,
+            interested: _interested,
             spent: _spent,
         } = self;
     }
@@ -51,13 +54,14 @@ impl Model for Hub {
     ghost use Rattle.std.specs.Prelude.{◌≡◌, false};
     ghost use Rattle.zr_told_spec.specs.Hub.{HubState, by_link};
     ghost use Rattle.zr_told_spec.specs.Rows.{map_on};
+    ghost use Rattle.zr_told_interested.specs.ByKey.{IsOf};
     ghost use Rattle.zr_router_core.specs.Right.{IsSound, spent_as};
 
     ghost Value = { HubState };
 
     ghost view = { λ h. record { node = spent_as h.node h.spent; told = by_link h.node.links (λ k. map_on h.told k) } };
 
-    ghost invariant = { λ h. h.spent ≡ false → IsSound h.node h.told };
+    ghost invariant = { λ h. h.spent ≡ false → IsSound h.node h.told × IsOf h.node.clients h.interested };
 }
 
 impl Hub {
@@ -68,6 +72,7 @@ impl Hub {
         Ok(Hub {
             node: Node::new(alloc, me)?,
             told: Told::new(alloc),
+            interested: Interested::new(),
             spent: false,
         })
     }
@@ -141,7 +146,8 @@ impl Hub {
 
     /// Whether memory has not run out. Then a sample changes nothing of the router, nobody is told anything of it, and it is taken.
     pub fn is_calm(&self) -> bool
-        ensures { result ≡ true → IsCalm self.now }
+        ensures calm { result ≡ true → IsCalm self.now }
+        ensures exactly { result ≡ not self.now.node.spent }
     {
         !self.spent
     }
@@ -170,7 +176,14 @@ impl Hub {
         if self.spent {
             return Err(NodeError::Spent);
         }
-        match on_event(alloc, &mut self.node, &mut self.told, event, out) {
+        match on_event(
+            alloc,
+            &mut self.node,
+            &mut self.told,
+            &mut self.interested,
+            event,
+            out,
+        ) {
             Ok(()) => Ok(()),
             Err(HubFailure::Refused(error)) => Err(error),
             Err(HubFailure::NoMemory) => {

@@ -85,30 +85,17 @@ fn places_from(
     ensures places { IfOk result (λ o. option_map (λ v. v.items) o ≡ places_from node.now link.0 msg.now) }
     ensures keys { IfOk result (λ o. IfSome o (λ v. AreKeys v.items)) }
 {
+    let rows = node.rows();
     match msg {
-        Msg::Sub { id, key } => some(places_declared(
-            alloc,
-            node.rows(),
-            link,
-            *id,
-            Kind::Sub,
-            key,
-        )),
-        Msg::Unsub { id } => some(places_under(alloc, node.rows(), link, *id, Kind::Sub)),
+        Msg::Sub { id, key } => some(places_declared(alloc, rows, link, *id, Kind::Sub, key)),
+        Msg::Unsub { id } => some(places_under(alloc, rows, link, *id, Kind::Sub)),
         Msg::Able { id, key, complete } => {
             let kind = able_kind(*complete);
-            some(places_declared(alloc, node.rows(), link, *id, kind, key))
+            some(places_declared(alloc, rows, link, *id, kind, key))
         }
-        Msg::Unable { id } => some(places_under(alloc, node.rows(), link, *id, Kind::Able)),
-        Msg::Token { id, key } => some(places_declared(
-            alloc,
-            node.rows(),
-            link,
-            *id,
-            Kind::Token,
-            key,
-        )),
-        Msg::Untoken { id } => some(places_under(alloc, node.rows(), link, *id, Kind::Token)),
+        Msg::Unable { id } => some(places_under(alloc, rows, link, *id, Kind::Able)),
+        Msg::Token { id, key } => some(places_declared(alloc, rows, link, *id, Kind::Token, key)),
+        Msg::Untoken { id } => some(places_under(alloc, rows, link, *id, Kind::Token)),
         Msg::Step { decl, .. } => some(place_alone(alloc, decl.get())),
         Msg::State { links } => Ok(places_told(alloc, node.base(), links.get())),
         Msg::Snap { .. } => Ok(None),

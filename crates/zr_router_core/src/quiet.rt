@@ -1,9 +1,14 @@
 //! Events of which nobody is told anything, and those that change an interest.
 
 ghost use Rattle.std.specs.Prelude.{◌≡◌};
+ghost use Rattle.std.specs.Ordering.{nat_cmp};
+ghost use Rattle.zr_lists.specs.Ascending.{has_key};
+ghost use Rattle.zr_local.specs.Clients.{client_link};
+ghost use Rattle.zr_router_core.specs.Lasting.{leaves_interests};
 ghost use Rattle.zr_router_core.specs.Places.{is_quiet, is_quiet_msg};
 ghost use Rattle.zr_router_core.specs.Ready.{is_own, is_own_msg, tells_nobody};
 
+use zr_id::link::LinkNo;
 use zr_local::interest::ClientInterests;
 use zr_msg::event::Event;
 use zr_msg::msg::Msg;
@@ -83,6 +88,22 @@ fn is_own_msg(msg: &Msg) -> bool
         | Msg::Step { .. }
         | Msg::Snap { .. } => false,
     }
+}
+
+/// Whether a client leaves that has interests.
+pub fn leaves_interests(clients: &[ClientInterests], event: &Event) -> bool
+    ensures { result ≡ leaves_interests clients.now event.now }
+{
+    match event {
+        Event::Down { link } => has_interests(clients, *link),
+        Event::Up { .. } | Event::From { .. } => false,
+    }
+}
+
+fn has_interests(clients: &[ClientInterests], link: LinkNo) -> bool
+    ensures { result ≡ has_key nat_cmp client_link clients.now link.0 }
+{
+    clients.iter().any(|c| c.link.0.cmp(&link.0).is_eq())
 }
 
 /// Whether nobody is told anything of an event, as is known before it: it is quiet, or no client has an interest.

@@ -11,7 +11,10 @@ ghost use Rattle.zr_node_spec.specs.State.{tables};
 ghost use Rattle.zr_told_spec.specs.Hub.{tells_with, told_with};
 ghost use Rattle.zr_told_spec.specs.Rows.{AreAsWantedBut, AreListed, IsNoted, map_on, one_lacks_ids, others, sent_on, tells_all, told_on};
 ghost use Rattle.zr_router_core.specs.Done.{IsToldOf};
-ghost use Rattle.zr_router_core.specs.Ready.{IsButAt, IsReady, IsToTell, is_nowhere, is_own_msg, is_silent, still_told};
+ghost use Rattle.zr_told_interested.specs.ByKey.{IsOf};
+ghost use Rattle.zr_told_interested.specs.Among.{AreFound};
+ghost use Rattle.zr_router_core.specs.Lasting.{AreLinksAt};
+ghost use Rattle.zr_router_core.specs.Ready.{IsButAt, IsReady, IsToTell, is_nowhere, is_own, is_own_msg, is_silent, still_told};
 
 use crate::quiet::is_own;
 use std::alloc::{AllocError, Global};
@@ -25,6 +28,7 @@ use zr_node::node::Node;
 use zr_node_spec::tables::TablesView;
 use zr_told::error::ToldError;
 use zr_told::told::Told;
+use zr_told_interested::interested::Interested;
 use zr_told_spec::place::Place;
 
 /// The clients are told what an event changed: at these places, or anywhere. The router has handled it.
@@ -32,19 +36,22 @@ pub fn tell(
     alloc: Global,
     node: &mut Node,
     told: &mut Told,
+    interested: &mut Interested,
     event: &Event,
     places: &Option<Vec<Place>>,
     out: &mut Vec<(LinkNo, Msg)>,
 ) -> Result<(), AllocError>
-    requires { IsToTell (tables node.old) event.now (option_map (λ v. v.items) places.now) (λ k. map_on told.old k) }
+    requires to_tell { IsToTell (tables node.old) event.now (option_map (λ v. v.items) places.now) (λ k. map_on told.old k) }
+    requires known { IsOf node.old.clients interested.old }
     ensures same { node.new ≡ node.old }
     ensures told { IsToldOf (tables node.old) event.now result told.old told.new out.old.items out.new.items }
+    ensures known { IsOf node.old.clients interested.new }
 {
     forget(told, event);
     if is_silent(node.clients(), event, places) {
         return Ok(());
     }
-    tell_lent(alloc, node, told, event, places, out)
+    tell_lent(alloc, node, told, interested, event, places, out)
 }
 
 // So it is where some client may be told something, and what was told on a link that is down was forgotten.
@@ -52,19 +59,46 @@ fn tell_lent(
     alloc: Global,
     node: &mut Node,
     told: &mut Told,
+    interested: &mut Interested,
     event: &Event,
     places: &Option<Vec<Place>>,
     out: &mut Vec<(LinkNo, Msg)>,
 ) -> Result<(), AllocError>
-    requires { IsReady (tables node.old) event.now (option_map (λ v. v.items) places.now) (λ k. map_on told.old k) }
+    requires ready { IsReady (tables node.old) event.now (option_map (λ v. v.items) places.now) (λ k. map_on told.old k) }
+    requires known { IsOf node.old.clients interested.old }
     ensures same { node.new ≡ node.old }
     ensures told { IsToldOf (tables node.old) event.now result told.old told.new out.old.items out.new.items }
+    ensures known { IsOf node.old.clients interested.new }
 {
+    let links = links_at(alloc, interested, node.clients(), event, places)?;
     let trees = node.take_trees(alloc)?;
     let tables = node.tables(&trees);
-    let answer = tell_by(alloc, &tables, told, event, places, out);
+    let answer = tell_by(alloc, &tables, told, event, places, &links, out);
     node.put_trees(trees);
     answer
+}
+
+// Where it is known at which places declarations changed: the links of the clients that may be told of it. None are looked for where one client
+// alone may be told anything.
+fn links_at(
+    alloc: Global,
+    interested: &mut Interested,
+    clients: &[ClientInterests],
+    event: &Event,
+    places: &Option<Vec<Place>>,
+) -> Result<Vec<u32>, AllocError>
+    requires by_link { AreByLink clients.now }
+    requires known { IsOf clients.now interested.old }
+    ensures known { IsOf clients.now interested.new }
+    ensures links { IfOk result (λ v. is_own event.now ≡ false → AreLinksAt (option_map (λ v. v.items) places.now) clients.now v.items) }
+{
+    if is_own(event) {
+        return Ok(Vec::new(alloc));
+    }
+    match places {
+        Some(places) => interested.find(alloc, clients, places),
+        None => Ok(Vec::new(alloc)),
+    }
 }
 
 // The client of a link that is down is gone.
@@ -98,13 +132,15 @@ fn tell_by(
     told: &mut Told,
     event: &Event,
     places: &Option<Vec<Place>>,
+    links: &[u32],
     out: &mut Vec<(LinkNo, Msg)>,
 ) -> Result<(), AllocError>
-    requires { IsReady tables.now event.now (option_map (λ v. v.items) places.now) (λ k. map_on told.old k) }
+    requires ready { IsReady tables.now event.now (option_map (λ v. v.items) places.now) (λ k. map_on told.old k) }
+    requires links { is_own event.now ≡ false → AreLinksAt (option_map (λ v. v.items) places.now) tables.now.clients links.now }
     ensures { IsToldOf tables.now event.now result told.old told.new out.old.items out.new.items }
 {
     if !is_own(event) {
-        return tell_all(alloc, tables, told, places, out);
+        return tell_all(alloc, tables, told, places, links, out);
     }
     match event {
         Event::From { link, msg } => tell_own(alloc, tables, told, *link, msg, out),
@@ -213,8 +249,10 @@ fn tell_all(
     tables: &TablesView,
     told: &mut Told,
     places: &Option<Vec<Place>>,
+    links: &[u32],
     out: &mut Vec<(LinkNo, Msg)>,
 ) -> Result<(), AllocError>
+    requires links { AreLinksAt (option_map (λ v. v.items) places.now) tables.now.clients links.now }
     requires changed { (k : ℕ) → IsButAt (option_map (λ v. v.items) places.now) (others tables.now k) (interests_on tables.now.clients k) (map_on told.old k) }
     requires ids { one_lacks_ids tables.now tables.now.clients ≡ false }
     ensures map { OnOk result ((k : ℕ) → map_on told.new k ≡ told_on tables.now tables.now.clients told.old k) }
@@ -223,7 +261,7 @@ fn tell_all(
     ensures in_order { AreByLink tables.now.clients }
 {
     match places {
-        Some(places) => tell_at(alloc, tables, told, places, out),
+        Some(places) => tell_at(alloc, tables, told, places, links, out),
         None => tell_anywhere(alloc, tables, told, out),
     }
 }
@@ -233,8 +271,10 @@ fn tell_at(
     tables: &TablesView,
     told: &mut Told,
     places: &[Place],
+    links: &[u32],
     out: &mut Vec<(LinkNo, Msg)>,
 ) -> Result<(), AllocError>
+    requires found { AreFound places.now links.now tables.now.clients }
     requires changed { AreAsWantedBut places.now tables.now tables.now.clients told.old }
     requires ids { one_lacks_ids tables.now tables.now.clients ≡ false }
     ensures map { OnOk result ((k : ℕ) → map_on told.new k ≡ told_on tables.now tables.now.clients told.old k) }
@@ -242,7 +282,8 @@ fn tell_at(
     ensures prefix { OnErr result (IsPrefixBehind out.old.items (tells_all tables.now tables.now.clients told.old) out.new.items) }
     ensures in_order { AreByLink tables.now.clients }
 {
-    match told.changed_at(alloc, tables, tables.local().clients(), places, out) {
+    let clients = tables.local().clients();
+    match told.changed_at(alloc, tables, clients, places, links, out) {
         Ok(()) => Ok(()),
         Err(ToldError::NoMemory) => Err(AllocError),
         Err(ToldError::Worn) => unreachable!(),

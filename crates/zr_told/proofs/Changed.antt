@@ -45,19 +45,6 @@ below : (k : ℕ) (ks : List ℕ) → Sorted (k ∷ ks) → Sorted ks
 unfolding IsStrictlySortedBy
 below k ks s = s.1
 
-without_middle : (xs : List ℕ) (y : ℕ) (zs : List ℕ) → Sorted (xs ++ y ∷ zs) → Sorted (xs ++ zs)
-unfolding IsStrictlySortedBy
-without_middle [] y zs s = s.1
-without_middle (x ∷ xs) y zs s = (fewer _ xs s.0, without_middle xs y zs s.1)
-  where
-    fewer : (P : ℕ → Type 0) (xs : List ℕ) → AllByRecursion P (xs ++ y ∷ zs) → AllByRecursion P (xs ++ zs)
-    fewer P [] a = a.1
-    fewer P (x ∷ xs) a = (a.0, fewer P xs a.1)
-
-last_part : (xs ys : List ℕ) → Sorted (xs ++ ys) → Sorted ys
-last_part [] ys s = s
-last_part (x ∷ xs) ys s = last_part xs ys (below x (xs ++ ys) s)
-
 -- no other stands on the link of the first
 none_later : (c : ClientInterests) (cs : List ClientInterests) → Sorted (map (λ d. d.link.0) (c ∷ cs)) → entry_on cs c.link.0 ≡ None
 none_later c cs s = on cs (above c.link.0 (map (λ d. d.link.0) cs) s)
@@ -235,16 +222,15 @@ untouched (q ∷ qs) is p h =
     let k = or_parts (list_any (λ i. fits i q) is) (is_touched qs is) h in
     or_from (touches is q p) (list_any (λ q. touches is q p) qs) (untouched_one is q p k.0) (untouched qs is p k.1)
 
-pub one_skipped : (t : TableState) (cs : List ClientInterests) (maps : Maps) (es : List LinkPlan) (c : ClientInterests) (rest : List ClientInterests) (qs : List Place) →
-    is_touched qs c.interests ≡ false → IsAsWantedBut qs (others t c.link.0) c.interests (map_on maps c.link.0) → AreFew maps →
-    ArePlanned t cs maps es (c ∷ rest) → ArePlanned t cs maps es rest
-one_skipped t cs maps es c rest qs h w few a = record {
-  links = without_middle (map (λ e. e.link.0) es) c.link.0 (map (λ d. d.link.0) rest) a.links;
-  last = a.last;
-  tells = sym (ap (λ z. flat_map (tells_plan maps) es ++ (sent_on c.link z ++ tells_all t rest maps)) quiet.0) ∙ a.tells;
-  told = λ k. ap (λ z. option_map_or (told_plan maps) (plan_on es k) z) (sym (by k (c.link.0 == k) refl)) ∙ a.told k;
-  ids = a.ids ∙ ap (λ z. z || one_lacks_ids t rest) lasts;
-}
+-- it is told nothing, and ids last for it
+pub record IsQuiet (t : TableState) (maps : Maps) (c : ClientInterests) : Type 0 where
+  pub ids : lacks_ids (others t c.link.0) c.interests ≡ false
+  pub tells : tells_changes (others t c.link.0) c.interests (map_on maps c.link.0) ≡ []
+  pub told : told_changes (others t c.link.0) c.interests (map_on maps c.link.0) ≡ map_on maps c.link.0
+
+pub quiet_one : (t : TableState) (maps : Maps) (c : ClientInterests) (qs : List Place) →
+    is_touched qs c.interests ≡ false → IsAsWantedBut qs (others t c.link.0) c.interests (map_on maps c.link.0) → AreFew maps → IsQuiet t maps c
+quiet_one t maps c qs h w few = record { ids = lasts; tells = quiet.0; told = quiet.1 }
   where
     lasts : lacks_ids (others t c.link.0) c.interests ≡ false
     lasts =
@@ -255,16 +241,21 @@ one_skipped t cs maps es c rest qs h w few a = record {
     quiet : (tells_changes (others t c.link.0) c.interests (map_on maps c.link.0) ≡ []) × (told_changes (others t c.link.0) c.interests (map_on maps c.link.0) ≡ map_on maps c.link.0)
     quiet = nothing_is_told (others t c.link.0) c.interests (map_on maps c.link.0) (λ p. w p (untouched qs c.interests p h))
 
-    by : (k : ℕ) (b : Bool) → (c.link.0 == k) ≡ b → told_among t (c ∷ rest) maps k ≡ told_among t rest maps k
-    by k true q =
+-- so it need not be among those that are told
+pub told_without : (t : TableState) (maps : Maps) (c : ClientInterests) (rest : List ClientInterests) → AreByLink (c ∷ rest) → IsQuiet t maps c →
+    (k : ℕ) → told_among t (c ∷ rest) maps k ≡ told_among t rest maps k
+told_without t maps c rest s quiet k = by (c.link.0 == k) refl
+  where
+    by : (b : Bool) → (c.link.0 == k) ≡ b → told_among t (c ∷ rest) maps k ≡ told_among t rest maps k
+    by true q =
         let j : c.link.0 ≡ k = eqb-true c.link.0 k q in
-        let o : entry_on rest k ≡ None = ap (λ z. entry_on rest z) (sym j) ∙ none_later c rest (last_part (map (λ e. e.link.0) es) (map (λ d. d.link.0) (c ∷ rest)) a.links) in
+        let o : entry_on rest k ≡ None = ap (λ z. entry_on rest z) (sym j) ∙ none_later c rest (sorted_links (c ∷ rest) s) in
         ap (λ z. option_map_or (λ d. told_changes (others t k) d.interests (map_on maps k)) (cond z (Some c) (entry_on rest k)) (map_on maps k)) q
         ∙ ap (λ z. told_changes (others t z) c.interests (map_on maps z)) (sym j)
-        ∙ quiet.1
+        ∙ quiet.told
         ∙ ap (λ z. map_on maps z) j
         ∙ sym (ap (λ z. option_map_or (λ d. told_changes (others t k) d.interests (map_on maps k)) z (map_on maps k)) o)
-    by k false q = ap (λ z. option_map_or (λ d. told_changes (others t k) d.interests (map_on maps k)) (cond z (Some c) (entry_on rest k)) (map_on maps k)) q
+    by false q = ap (λ z. option_map_or (λ d. told_changes (others t k) d.interests (map_on maps k)) (cond z (Some c) (entry_on rest k)) (map_on maps k)) q
 
 -- the error that a call gave, or another where it gave none
 abbrev pub err_or : {T E : Type 0} → E → Result T E → E

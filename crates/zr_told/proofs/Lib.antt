@@ -10,6 +10,7 @@ pub mod Said
 pub mod Calls
 pub mod Clients
 pub mod Changed
+pub mod Among
 pub mod Found
 pub mod Links
 pub mod Lasting

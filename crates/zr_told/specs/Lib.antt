@@ -3,3 +3,4 @@ pub mod Plan
 pub mod Calls
 pub mod Laws
 pub mod Tokens
+pub mod Touched

@@ -19,6 +19,8 @@ use Rattle.zr_told.specs.Ids.{IdsState, is_given}
 use Rattle.zr_told.specs.declared.book.Plan.{Plan}
 use Rattle.zr_told.specs.declared.mark.Mark.{Mark}
 use Rattle.zr_told.specs.declared.plan.LinkPlan.{LinkPlan}
+use Rattle.zr_told_spec.specs.declared.place.Class.{Class}
+use Rattle.zr_told_spec.specs.declared.place.Class.TheVariants.{Subscriber, Queryable, Living}
 use Rattle.zr_told_spec.specs.declared.place.Place.{Place}
 
 -- ---- ids
@@ -167,6 +169,12 @@ ids_last maps es = AllByRecursion (λ e. HasIds (map_on maps e.link.0) e.plan) e
 -- the links of plans ascend, each once
 abbrev pub PlansAscend : List LinkPlan → Type 0
 PlansAscend es = IsStrictlySortedBy nat_cmp (map (λ e. e.link.0) es)
+
+-- a queryable alone may be complete
+abbrev pub may_be_complete : Class → Bool
+may_be_complete Subscriber = false
+may_be_complete Queryable = true
+may_be_complete Living = false
 
 -- ---- what is sought among declarations: what an interest is told of at a place, or a complete queryable there
 

@@ -4,7 +4,7 @@ ghost use Rattle.std.specs.Prelude.{◌≡◌, filter};
 ghost use Rattle.std.specs.List.{list_any, flat_map};
 ghost use Rattle.std.specs.Option.{option_copied};
 ghost use Rattle.zr_local.specs.Rows.{decls_of, left};
-ghost use Rattle.zr_told.specs.Plan.{is_sought};
+ghost use Rattle.zr_told.specs.Plan.{is_sought, may_be_complete};
 ghost use Rattle.zr_told_spec.specs.Rows.{is_source, others};
 ghost use Rattle.zr_told_spec.specs.Wanted.{asked, is_complete_at, wants};
 
@@ -18,7 +18,7 @@ use zr_log::log::Log;
 use zr_msg::decl::Decl;
 use zr_node_spec::kinds::is_complete;
 use zr_node_spec::tables::TablesView;
-use zr_told_spec::place::Place;
+use zr_told_spec::place::{Class, Place};
 
 /// Whether a client wants to be told of a place. Cost: a search of what others declare for each of its interests, up to the first that wants it.
 pub fn is_wanted(tables: &TablesView, client: &ClientInterests, place: &Place) -> bool
@@ -48,7 +48,17 @@ fn is_asked(tables: &TablesView, link: LinkNo, interest: &Interest, place: &Plac
 pub fn is_complete_at(tables: &TablesView, link: LinkNo, place: &Place) -> bool
     ensures { result ≡ is_complete_at (others tables.now link.0) place.now }
 {
-    is_found(tables, link, None, place)
+    may_be_complete(place.class) && is_found(tables, link, None, place)
+}
+
+// So nothing is sought among subscribers and tokens.
+fn may_be_complete(class: Class) -> bool
+    ensures { result ≡ may_be_complete class }
+{
+    match class {
+        Class::Queryable => true,
+        Class::Subscriber | Class::Living => false,
+    }
 }
 
 // Whether others declare what an interest is told of at a place, or, for none, a complete queryable there.

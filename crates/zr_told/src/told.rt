@@ -8,6 +8,7 @@ ghost use Rattle.std.specs.List.{flat_map, fold};
 ghost use Rattle.zr_local.specs.Clients.{AreByLink};
 ghost use Rattle.zr_lists.specs.Prefix.{IsPrefixBehind};
 ghost use Rattle.zr_told.specs.Calls.{HasTold};
+ghost use Rattle.zr_told_interested.specs.Among.{AreFound};
 ghost use Rattle.zr_told.specs.Plan.{HasIds, IsPlan, PlansAscend, forgotten, ids_last, is_answered, tells_plan, told_plans};
 ghost use Rattle.zr_told_spec.specs.Rows.{AreAsWantedBut, AreListed, IsAsWantedBut, IsNoted, Maps, map_on, one_lacks_ids, tells_all, told_on, most_id, sent_on, others, lacks_ids, tells_changes, told_changes, is_again, answered, once, closing, tells_interest, told_interest};
 ghost use Rattle.zr_told_spec.specs.Told.{entered, undeclared, declared, declares};
@@ -19,7 +20,7 @@ use crate::marks::wanted_places;
 use crate::others::others;
 use crate::plan::{LinkPlan, plan_at, plan_of};
 use crate::tokens::others_for;
-use crate::touched::is_touched;
+use crate::touched::touched_on;
 use std::alloc::{AllocError, Global};
 use std::collections::BTreeMap;
 use std::marker::Model;
@@ -123,21 +124,24 @@ impl Told {
     }
 
     /// Declarations changed at these places, and the clients are told of it, in the order of their links. `clients` have all live interests, by
-    /// link, and `tables` are those after the change. Cost: for each client with an interest that fits one of the places, and each place where
-    /// that is told, a search of what others declare; nothing for the other clients but a look at their interests.
+    /// link, `tables` are those after the change, and `links` are those, in ascending order, of the clients with an interest that fits one of
+    /// the places; others may be among them. Cost: for each client with such an interest, and each place where that is told, a search of what
+    /// others declare; for the others among `links` a look at their interests, and nothing for the rest.
     pub fn changed_at(
         &mut self,
         alloc: Global,
         tables: &TablesView,
         clients: &[ClientInterests],
         places: &[Place],
+        links: &[u32],
         out: &mut Vec<(LinkNo, Msg)>,
     ) -> Result<(), ToldError>
         requires by_link { AreByLink clients.now }
         requires before { AreAsWantedBut places.now tables.now clients.now self.old }
+        requires found { AreFound places.now links.now clients.now }
         ensures { HasTold (one_lacks_ids tables.now clients.now) (tells_all tables.now clients.now self.old) (told_on tables.now clients.now self.old) result self.old self.new out.old.items out.new.items }
     {
-        let plans = self.plans_at(alloc, tables, clients, places)?;
+        let plans = self.plans_at(alloc, tables, clients, places, links)?;
         Ok(self.tell_all(alloc, &plans, out)?)
     }
 
@@ -214,16 +218,18 @@ impl Told {
         self.plan(alloc, link, &others, interests, None)
     }
 
-    // What the clients are to be told of changes at these places.
+    // What the clients are to be told of changes at these places. Those that may be told anything are among these links.
     fn plans_at(
         &self,
         alloc: Global,
         tables: &TablesView,
         clients: &[ClientInterests],
         places: &[Place],
+        links: &[u32],
     ) -> Result<Vec<LinkPlan>, ToldError>
         requires by_link { AreByLink clients.now }
         requires before { AreAsWantedBut places.now tables.now clients.now self.now }
+        requires found { AreFound places.now links.now clients.now }
         ensures ascend { IfOk result (λ es. PlansAscend es.items) }
         ensures last { IfOk result (λ es. ids_last self.now es.items) }
         ensures told { IfOk result (λ es. (k : ℕ) → told_plans self.now es.items k ≡ told_on tables.now clients.now self.now k) }
@@ -234,8 +240,8 @@ impl Told {
         // Read, so that the proof knows that the books ascend by link.
         let _count = self.books.len();
         let mut plans = Vec::new(alloc);
-        for client in clients {
-            if is_touched(places, client.interests.as_slice()) {
+        for link in links {
+            if let Some(client) = touched_on(places, clients, *link) {
                 let plan = self.plan_at(alloc, tables, client, places)?;
                 put_plan(client.link, plan, &mut plans)?;
             }

@@ -2,6 +2,12 @@
 
 ghost use Rattle.std.specs.Prelude.{◌≡◌, IfOk, OnOk};
 ghost use Rattle.std.specs.List.{fold, list_any};
+ghost use Rattle.std.specs.Option.{option_copied};
+ghost use Rattle.std.specs.Ordering.{nat_cmp};
+ghost use Rattle.zr_lists.specs.Ascending.{at_key};
+ghost use Rattle.zr_lists.specs.Place.{IsPlace};
+ghost use Rattle.zr_local.specs.Clients.{AreByLink, client_link};
+ghost use Rattle.zr_told.specs.Touched.{touched_on};
 ghost use Rattle.zr_told.specs.Plan.{mark_at, mark_here, mark_fitting, marks_at};
 ghost use Rattle.zr_told_spec.specs.Rows.{is_touched, others};
 ghost use Rattle.zr_told_spec.specs.Wanted.{fits};
@@ -15,8 +21,43 @@ use zr_local::interest::{ClientInterests, Interest};
 use zr_node_spec::tables::TablesView;
 use zr_told_spec::place::Place;
 
-/// Whether a client has an interest that fits one of these places.
-pub fn is_touched(places: &[Place], interests: &[Interest]) -> bool
+/// The client of a link, if it has an interest that fits one of these places.
+pub fn touched_on<'a>(
+    places: &[Place],
+    clients: &'a [ClientInterests],
+    link: u32,
+) -> Option<&'a ClientInterests>
+    requires { AreByLink clients.now }
+    ensures { option_copied result ≡ touched_on places.now clients.now link }
+{
+    let client = client_on(clients, link)?;
+    if is_touched(places, client.interests.as_slice()) {
+        Some(client)
+    } else {
+        None
+    }
+}
+
+// The client of a link, if it has interests.
+fn client_on(clients: &[ClientInterests], link: u32) -> Option<&ClientInterests>
+    requires { AreByLink clients.now }
+    ensures { option_copied result ≡ at_key nat_cmp client_link clients.now link }
+{
+    match place_on(clients, link) {
+        Ok(at) => Some(&clients[at]),
+        Err(_) => None,
+    }
+}
+
+fn place_on(clients: &[ClientInterests], link: u32) -> Result<usize, usize>
+    requires { AreByLink clients.now }
+    ensures { IsPlace nat_cmp client_link clients.now link result }
+{
+    clients.binary_search_by_key(&link, |client| client.link.0)
+}
+
+// Whether a client has an interest that fits one of these places.
+fn is_touched(places: &[Place], interests: &[Interest]) -> bool
     ensures { result ≡ is_touched places.now interests.now }
 {
     for place in places {

@@ -2,6 +2,7 @@ use Rattle.std.proofs.Common.{List, ap, sym, ◌∙◌}
 use Rattle.zr_local.specs.declared.interest.ClientInterests.{ClientInterests}
 use Rattle.zr_router_core.specs.Ready.{tells_nobody}
 use Rattle.zr_router_core.proofs.Joined.{nobody_done, nobody_stays}
+use Rattle.zr_router_core.proofs.Lasting.{known_after}
 use Rattle.zr_router_core.proofs.whole.on_event.Goals as goal
 
 pub returns-then-tells_nobody-clause-done : goal.returns-then-tells_nobody-clause-done
@@ -13,3 +14,7 @@ pub returns-then-tells_nobody-clause-sound : goal.returns-then-tells_nobody-clau
 returns-then-tells_nobody-clause-sound c =
     nobody_stays c.args.node.now c.args.told.now c.args.event.now c.requires.sound (ap (λ (cs : List ClientInterests). tells_nobody cs c.args.event.now) (sym c.clients.ensures.value) ∙ sym c.tells_nobody.ensures ∙ c.if-tells_nobody.true)
     c.handle.result c.handle.new.node c.args.out.now.items c.handle.new.out.items c.handle.ensures
+
+pub returns-then-tells_nobody-clause-known : goal.returns-then-tells_nobody-clause-known
+returns-then-tells_nobody-clause-known c =
+    known_after c.args.node.now c.args.event.now c.forget_changed.new.interested c.handle.result c.handle.new.node c.args.out.now.items c.handle.new.out.items c.handle.ensures c.forget_changed.ensures

@@ -2,10 +2,14 @@ use Rattle.std.proofs.Common.{Err, subst}
 use Rattle.zr_router_core.specs.Done.{IsNodeDone}
 use Rattle.zr_router_core.specs.declared.failure.HubFailure.{HubFailure}
 use Rattle.zr_router_core.proofs.Joined.{to_tell_now, now_done, now_sound, first_prefix}
+use Rattle.zr_router_core.proofs.Lasting.{known_told, known_handled}
 use Rattle.zr_router_core.proofs.whole.on_judged.Goals as goal
 
-pub tell-requires : goal.tell-requires
-tell-requires c =
+pub tell-requires-clause-known : goal.tell-requires-clause-known
+tell-requires-clause-known c = known_handled c.args.node.now c.args.event.now c.args.interested.now c.handle.new.node c.args.out.now.items c.handle.new.out.items c.in-Ok.ensures c.requires.lasting
+
+pub tell-requires-clause-to_tell : goal.tell-requires-clause-to_tell
+tell-requires-clause-to_tell c =
     to_tell_now c.args.node.now c.args.told.now c.args.event.now c.args.places.now c.requires.before c.requires.sound c.requires.places c.requires.keys c.requires.ids c.handle.new.node c.args.out.now.items c.handle.new.out.items c.in-Ok.ensures
 
 pub returns-in-Ok-clause-done : goal.returns-in-Ok-clause-done
@@ -22,3 +26,6 @@ pub returns-in-Err-NoMemory-clause-done : goal.returns-in-Err-NoMemory-clause-do
 returns-in-Err-NoMemory-clause-done c =
     first_prefix c.args.node.now c.args.told.now c.args.event.now c.args.out.now.items c.handle.new.out.items
     (subst (λ (f : HubFailure). IsNodeDone c.args.node.now c.args.event.now (Err f) c.handle.new.node c.args.out.now.items c.handle.new.out.items) c.in-Err-NoMemory.field-0-is c.in-Err-NoMemory.ensures)
+
+pub returns-in-Ok-clause-known : goal.returns-in-Ok-clause-known
+returns-in-Ok-clause-known c = known_told c.handle.new.node c.tell.new.node c.tell.new.interested c.tell.result c.answer.result c.tell.ensures.same c.answer.ensures c.tell.ensures.known

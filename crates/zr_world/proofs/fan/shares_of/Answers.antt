@@ -21,7 +21,7 @@ loop-name-preserved c =
     let ns : List ℕ = c.loop-name.weights.items in
     let s : ShareState = new_share c.in-Some.name c.into_parts-hub.result.0 in
     let one = one_taken rs c.loop-name.name-iterator left c.in-Some.name c.in-Some.router c.into_parts-hub.result.0 c.into_parts-hub.result.1 ss ns c.loop-name.invariant c.in-Some.ensures.steps
-    c.into_parts-hub.ensures.hub c.into_parts-hub.ensures.weight (c.is_calm.ensures c.if-not-is_calm.false)
+    c.into_parts-hub.ensures.hub c.into_parts-hub.ensures.weight (c.is_calm.ensures.calm c.if-not-is_calm.false)
     in
     let shares = c.in_ok-push.ensures.items ∙ ap (λ (z : ShareState). ss ++ z ∷ []) c.new.ensures in
     subst (λ (z : List ShareState). AreTaking rs left z c.push-in-loop-name.new.self.items) (sym shares) (subst (λ (z : List ℕ). AreTaking rs left (ss ++ s ∷ []) z) (sym c.in_ok-push-2.ensures.items) one)

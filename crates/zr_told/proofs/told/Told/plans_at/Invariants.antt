@@ -1,10 +1,12 @@
 -- The plans and what is left to plan make all.
 use Rattle.std.proofs.Common.{drop}
-use Rattle.zr_told.proofs.Clients.{EachIsAsWantedBut}
+use Rattle.std.specs.List.Sorted.{IsStrictlySortedBy}
+use Rattle.std.specs.Ordering.{nat_cmp}
+use Rattle.zr_told.proofs.Among.{left_of}
 use Rattle.zr_told.proofs.Changed.{ArePlanned}
 use Rattle.zr_told.proofs.told.Told.plans_at.Given as goal
 
-abbrev pub invariant-loop-client : goal.invariant-loop-client
-invariant-loop-client l =
-    ArePlanned l.tables l.clients l.self l.plans.items (drop l.client-index l.clients)
-    × EachIsAsWantedBut l.places l.tables (drop l.client-index l.clients) l.self
+abbrev pub invariant-loop-link : goal.invariant-loop-link
+invariant-loop-link l =
+    ArePlanned l.tables l.clients l.self l.plans.items (left_of l.places (drop l.link-index l.links) l.clients)
+    × IsStrictlySortedBy nat_cmp (drop l.link-index l.links)
