@@ -19,6 +19,10 @@ use zr_push_sought::sought::Sought;
 /// declarations, and together they cost about what the index does. So tables that change often get none.
 const SEARCHES_BEFORE_INDEX: u32 = 32;
 
+/// Fewer declarations than these are looked at by each search. An index of them would save little time for its memory, which is over a
+/// KiB for each.
+const DECLARATIONS_BEFORE_INDEX: usize = 256;
+
 /// The searches for routes by the same tables, to subscribers or to queryables.
 #[derive(Drop)]
 pub struct KeySearches {
@@ -67,7 +71,8 @@ impl KeySearches {
         }
     }
 
-    // Makes the index, once enough searches were made. Where there is no memory for it, as many more are made first.
+    // Makes the index, once enough searches were made. Where there are few declarations, or there is no memory for it, as many more
+    // searches are made first.
     fn prepare(&mut self, alloc: Global, tables: &TablesView, sought: Sought)
         requires { AreSearches self.old sought tables.now }
         ensures { AreSearches self.new sought tables.now }
@@ -80,8 +85,21 @@ impl KeySearches {
             return;
         }
         self.made = 0;
+        if !are_many(tables) {
+            return;
+        }
         self.holders = Holders::of(alloc, tables, sought).ok();
     }
+}
+
+// Whether there are enough declarations for an index. It is only a guess of what a search costs: all kinds count, and a client's once
+// more in the own log.
+fn are_many(tables: &TablesView) -> bool {
+    let mut count = tables.local().rows().len();
+    for log in tables.known().logs() {
+        count = count.saturating_add(log.decls.as_slice().len());
+    }
+    count >= DECLARATIONS_BEFORE_INDEX
 }
 
 // The route in a tree to what is sought for a key, by the index, or by all declarations where there is no memory to read it.
