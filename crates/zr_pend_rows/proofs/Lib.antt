@@ -1,3 +1,4 @@
 pub mod Loops
 pub mod Ending
 pub mod OnLinks
+pub mod Asking

@@ -6,8 +6,8 @@ use Rattle.std.proofs.lemmas.List.{drop_more}
 use Rattle.zr_id.specs.declared.link.LinkNo.{LinkNo}
 use Rattle.zr_pend_spec.specs.declared.branch.Asker.{Asker}
 use Rattle.zr_pend_spec.specs.declared.branch.Branch.{Branch}
-use Rattle.zr_pend_spec.specs.Row.{RowState, has}
-use Rattle.zr_pend_spec.specs.Pending.{branch, free_number, opened, is_pending, final_to}
+use Rattle.zr_pend_spec.specs.Row.{RowState}
+use Rattle.zr_pend_spec.specs.Pending.{branch, free_number, opened, final_to}
 use Rattle.zr_pend_rows.specs.Ending.{all_ended, ended, finals_among}
 use Rattle.zr_pend_spec.proofs.Parts.{right_false}
 
@@ -25,13 +25,13 @@ pub none_more : (p : LinkNo → Bool) (to : List LinkNo) (i : ℕ) (d : LinkNo) 
 none_more p to i d lt h = right_false _ _ (ap (λ ls. list_any p ls) (sym (drop_more to i d lt)) ∙ h)
 
 -- the numbers of one row more are in use
-pub used_more : (c : Branch) (rows : List RowState) (i : ℕ) (r : RowState) (was new all : Bool) → i < length rows → r ≡ get_or rows i r → new ≡ (has c r || was) →
-    (is_pending c (drop i rows) || was) ≡ all → (is_pending c (drop (i + 1) rows) || new) ≡ all
-used_more c rows i r was new all lt is e h =
-    ap (λ t. is_pending c (drop (i + 1) rows) || t) e
-    ∙ swap (is_pending c (drop (i + 1) rows)) (has c r)
-    ∙ ap (λ (q : RowState). (has c q || is_pending c (drop (i + 1) rows)) || was) is
-    ∙ ap (λ rs. is_pending c rs || was) (sym (drop_more rows i r lt))
+pub used_more : (p : RowState → Bool) (rows : List RowState) (i : ℕ) (r : RowState) (was new all : Bool) → i < length rows → r ≡ get_or rows i r → new ≡ (p r || was) →
+    (list_any p (drop i rows) || was) ≡ all → (list_any p (drop (i + 1) rows) || new) ≡ all
+used_more p rows i r was new all lt is e h =
+    ap (λ t. list_any p (drop (i + 1) rows) || t) e
+    ∙ swap (list_any p (drop (i + 1) rows)) (p r)
+    ∙ ap (λ (q : RowState). (p q || list_any p (drop (i + 1) rows)) || was) is
+    ∙ ap (λ rs. list_any p rs || was) (sym (drop_more rows i r lt))
     ∙ h
   where
     swap : (s t : Bool) → (s || (t || was)) ≡ ((t || s) || was)

@@ -122,7 +122,7 @@ same_list low (m ∷ ms) (n ∷ ns) h k e =
 
 -- ---- numbers that differ, in ascending order
 
-abbrev differs : List ℕ → Bool
+abbrev pub differs : List ℕ → Bool
 differs [] = true
 differs (n ∷ ns) = not (is_in n ns) && differs ns
 

@@ -5,6 +5,7 @@ ghost use Rattle.std.specs.List.{list_any};
 ghost use Rattle.std.specs.Vec.{vec_len, vec_capacity};
 ghost use Rattle.zr_pend_spec.specs.Pending.{IsSound, ascending, asked, asker_of, begun, count, differ, dropped, final_to, finals_of_drop, finished, free_number, is_full, is_pending, numbers_on, opened};
 
+use crate::askers::{as_branch, askers_in, enter, take_asker, take_askers};
 use crate::places::Places;
 use crate::row::{Row, copies_of};
 use crate::rows::{asker_of, drop_link, finish, numbers_in, numbers_of, put};
@@ -14,12 +15,13 @@ use zr_id::link::LinkNo;
 use zr_pend_numbers::numbers::Numbers;
 use zr_pend_spec::branch::{Asker, Branch};
 
-/// The pending requests of one router, in the order in which they began. Beside the rows it has which numbers are pending on each link, and
-/// where the row of each branch stands.
+/// The pending requests of one router, in the order in which they began. Beside the rows it has which numbers are pending on each link, under
+/// which numbers each link has asked, and where the row of each branch stands.
 #[derive(Drop)]
 pub struct Table {
     rows: Vec<Row>,
     pending: Numbers,
+    asked: Numbers,
     places: Places,
 }
 
@@ -27,13 +29,13 @@ impl Model for Table {
     ghost use Rattle.std.specs.Prelude.{List};
     ghost use Rattle.zr_pend_spec.specs.Pending.{IsSound};
     ghost use Rattle.zr_pend_spec.specs.Row.{RowState};
-    ghost use Rattle.zr_pend_rows.specs.Tied.{ArePending};
+    ghost use Rattle.zr_pend_rows.specs.Tied.{AreAsked, ArePending};
 
     ghost Value = { List RowState };
 
     ghost view = { λ t. t.rows.items };
 
-    ghost invariant = { λ t. IsSound t.rows.items × ArePending t.pending t.rows.items };
+    ghost invariant = { λ t. IsSound t.rows.items × ArePending t.pending t.rows.items × AreAsked t.asked t.rows.items };
 }
 
 impl Table {
@@ -44,6 +46,7 @@ impl Table {
         Table {
             rows: Vec::new(alloc),
             pending: Numbers::new(alloc),
+            asked: Numbers::new(alloc),
             places: Places::new(alloc),
         }
     }
@@ -55,6 +58,7 @@ impl Table {
         Ok(Table {
             rows: copies_of(alloc, &self.rows)?,
             pending: numbers_in(alloc, &self.rows)?,
+            asked: askers_in(alloc, &self.rows)?,
             places: self.places.copy(alloc, &self.rows)?,
         })
     }
@@ -68,14 +72,14 @@ impl Table {
     pub fn asked(&self, from: Asker) -> bool
         ensures { result ≡ asked from self.now }
     {
-        self.rows.iter().any(|r| r.is_asked_by(from))
+        self.asked.has(as_branch(from))
     }
 
     /// How many rows a link has asked.
     pub fn count(&self, link: LinkNo) -> u64
         ensures { result ≡ count link self.now }
     {
-        self.rows.iter().filter(|r| r.is_of(link)).count() as u64
+        self.asked.count(link)
     }
 
     /// Who asked the row of a branch, where it is pending and its asker's link is up.
@@ -118,7 +122,13 @@ impl Table {
         let numbers = numbers_of(alloc, branches.as_slice())?;
         let place = self.places.put(branches.as_slice())?;
         self.rows.reserve(1)?;
-        self.pending.put_all(alloc, branches.as_slice())?;
+        enter(
+            &mut self.pending,
+            &mut self.asked,
+            alloc,
+            asker,
+            branches.as_slice(),
+        )?;
         put(&mut self.rows, Row::new(place, asker, branches));
         Ok(numbers)
     }
@@ -133,7 +143,9 @@ impl Table {
             return None;
         }
         self.pending.take(branch);
-        finish(&mut self.rows, &mut self.places, branch)
+        let asker = finish(&mut self.rows, &mut self.places, branch);
+        take_asker(&mut self.asked, asker);
+        asker
     }
 
     /// A link went down: its branches, which have these numbers, end in that order, and what it asked has no asker any more. Those who get a final
@@ -144,8 +156,11 @@ impl Table {
         ensures rows { self.new ≡ dropped link self.old }
         ensures askers { askers.new.items ≡ askers.old.items ++ finals_of_drop link self.old }
     {
+        let before = askers.len();
         drop_link(&mut self.rows, &mut self.places, link, numbers, askers);
         self.pending.forget(link);
+        self.asked.forget(link);
+        take_askers(&mut self.asked, &askers.as_slice()[before..]);
     }
 
     // Whether a branch is pending.

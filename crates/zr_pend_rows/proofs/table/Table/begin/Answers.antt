@@ -6,14 +6,19 @@ use Rattle.zr_pend_spec.specs.Pending.{asked, opened}
 use Rattle.zr_pend_spec.proofs.Sound.{begun_sound}
 use Rattle.zr_pend_numbers.specs.Numbers.{is_used}
 use Rattle.zr_pend_rows.proofs.OnLinks.{opened_fresh, pending_begun}
+use Rattle.zr_pend_rows.proofs.Asking.{asked_begun}
+use Rattle.zr_pend_rows.specs.Tied.{as_branch}
 use Rattle.zr_pend_rows.proofs.table.Table.begin.Goals as goal
 
-pub put_all-requires : goal.put_all-requires
-put_all-requires c =
+pub enter-requires-clause-free : goal.enter-requires-clause-free
+enter-requires-clause-free c =
     let uses = c.self.inside.pending in
     let to = c.args.to.now in
     rw (c.as_slice-3.ensures.value, c.in_ok-branches.ensures)
     (sym (ap (λ rs. list_all (λ b. not (is_used uses b)) (opened rs to)) c.self.view_is) ∙ opened_fresh uses c.self.inside.rows.items to c.self.invariant.1)
+
+pub enter-requires-clause-fresh : goal.enter-requires-clause-fresh
+enter-requires-clause-fresh c = c.self.invariant.2 (as_branch c.args.asker) ∙ ap (λ rs. asked c.args.asker rs) c.self.view_is ∙ c.requires.fresh
 
 pub invariant_of-self-2 : goal.invariant_of-self-2
 invariant_of-self-2 c =
@@ -23,9 +28,10 @@ invariant_of-self-2 c =
     let new : RowState = record { asker = Some c.args.asker; branches = opened rows to } in
     let fresh : asked c.args.asker rows ≡ false = ap (λ rs. asked c.args.asker rs) c.self.view_is ∙ c.requires.fresh in
     let opens = c.in_ok-branches.ensures ∙ sym (ap (λ rs. opened rs to) c.self.view_is) in
-    let used : (b : Branch) → is_used c.put_all.new.self b ≡ (list_any (λ k. is_branch b k) (opened rows to) || is_used uses b) =
-    λ b. c.in_ok-put_all.ensures.ok b ∙ ap (λ bs. list_any (λ k. is_branch b k) bs || is_used uses b) (c.as_slice-3.ensures.value ∙ opens) in
+    let used : (b : Branch) → is_used c.enter.new.pending b ≡ (list_any (λ k. is_branch b k) (opened rows to) || is_used uses b) =
+    λ b. c.in_ok-enter.ensures.pending b ∙ ap (λ bs. list_any (λ k. is_branch b k) bs || is_used uses b) (c.as_slice-3.ensures.value ∙ opens) in
     rw (c.put-2.ensures, c.in_ok-reserve.ensures.items, c.new.ensures, opens) (
       begun_sound rows c.args.asker to c.requires.some c.requires.differ fresh c.self.invariant.0,
-      pending_begun uses c.put_all.new.self rows new used c.self.invariant.1,
+      pending_begun uses c.enter.new.pending rows new used c.self.invariant.1,
+      asked_begun c.self.inside.asked c.enter.new.asked rows c.args.asker (opened rows to) c.in_ok-enter.ensures.asked c.self.invariant.2,
     )
