@@ -1,5 +1,5 @@
 -- Shares that have done their turns, one after another.
-use Rattle.std.proofs.Common.{◌≡◌, ℕ, zero, suc, ◌<◌, ◌≤◌, List, [], ◌∷◌, take, drop, length, set, get_or, refl, sym, ap, ◌∙◌, subst, arith}
+use Rattle.std.proofs.Common.{◌≡◌, ℕ, zero, suc, ◌<◌, ◌≤◌, List, [], ◌∷◌, take, drop, length, set, get_or, refl, subst, arith}
 use Rattle.zr_world_gang.specs.declared.share.Turn.{Turn}
 use Rattle.zr_world_gang.specs.Shares.{ShareState}
 use Rattle.zr_world_gang.specs.Turns.{HasDone, AllHaveDone}

@@ -2,7 +2,6 @@
 #![tactic(auto)]
 
 pub mod gang;
-pub mod lines;
 pub mod message;
 pub mod one_by_one;
 pub mod share;

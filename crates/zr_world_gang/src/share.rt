@@ -11,7 +11,6 @@ ghost use Rattle.zr_world_spec.specs.Fan.{is_sample};
 ghost use Rattle.zr_world_gang.specs.Shares.{HasHandled, all_over, heard, is_behind, last_behind, new_share, MayBeHandled, over, to_client, to_router, told, with_input, with_output};
 ghost use Rattle.zr_world_gang.specs.Turns.{HasDone};
 
-use crate::lines::{in_order, join};
 use crate::message::{Sending, Waiting};
 use std::alloc::{AllocError, Global};
 use std::marker::Model;
@@ -22,8 +21,9 @@ use zr_msg::event::Event;
 use zr_msg::msg::Msg;
 use zr_msg::peer::{Peer, Role};
 use zr_router_core::hub::Hub;
-use zr_script::text::{put_handled, put_taken};
-use zr_script_spec::report::{FanSteps, ReportLine};
+use zr_script_spec::report::FanSteps;
+use zr_world_lines::lines::Lines;
+use zr_world_lines::order::in_order;
 
 /// What each share does in a round.
 #[derive(Clone, Copy, Debug, PartialEq, Eq)]
@@ -41,22 +41,21 @@ pub struct Share {
     hub: Hub,
     input: Vec<Waiting>,
     output: Vec<Sending>,
-    handled: Vec<Vec<u8>>,
-    taken: Vec<Vec<u8>>,
-    sent: Vec<Vec<u8>>,
-    // those that are told, in order, one behind another, and how many were of each kind
-    lines: Vec<Vec<u8>>,
-    text: Vec<u8>,
+    handled: Lines,
+    taken: Lines,
+    sent: Lines,
+    // those that are told, in order, and how many were of each kind
+    lines: Lines,
     kinds: FanSteps,
 }
 
 impl Model for Share {
-    ghost use Rattle.std.specs.Prelude.{map};
+    ghost use Rattle.std.specs.List.{concat};
     ghost use Rattle.zr_world_gang.specs.Shares.{MayBeHandled, ShareState};
 
     ghost Value = { ShareState };
 
-    ghost view = { λ s. record { name = s.name; hub = s.hub; input = s.input.items; output = s.output.items; handled = map (λ v. v.items) s.handled.items; taken = map (λ v. v.items) s.taken.items; sent = map (λ v. v.items) s.sent.items; lines = map (λ v. v.items) s.lines.items; text = s.text.items; kinds = s.kinds } };
+    ghost view = { λ s. record { name = s.name; hub = s.hub; input = s.input.items; output = s.output.items; handled = s.handled; taken = s.taken; sent = s.sent; lines = s.lines; text = concat s.lines; kinds = s.kinds } };
 
     ghost invariant = { λ s. MayBeHandled s.hub s.input.items };
 }
@@ -71,11 +70,10 @@ impl Share {
             hub,
             input: Vec::new(alloc),
             output: Vec::new(alloc),
-            handled: Vec::new(alloc),
-            taken: Vec::new(alloc),
-            sent: Vec::new(alloc),
-            lines: Vec::new(alloc),
-            text: Vec::new(alloc),
+            handled: Lines::new(alloc),
+            taken: Lines::new(alloc),
+            sent: Lines::new(alloc),
+            lines: Lines::new(alloc),
             kinds: FanSteps {
                 handled: 0,
                 taken: 0,
@@ -95,7 +93,7 @@ impl Share {
     pub fn text(&self) -> &[u8]
         ensures { result.now ≡ self.now.text }
     {
-        &self.text
+        self.lines.text()
     }
 
     /// Whether the first line that it has told is not below a text; so it is where there is none.
@@ -103,7 +101,7 @@ impl Share {
         ensures { result ≡ is_behind last.now self.now.lines }
     {
         match self.lines.first() {
-            Some(line) => !line.as_slice().cmp(&last).is_lt(),
+            Some(line) => !line.cmp(&last).is_lt(),
             None => true,
         }
     }
@@ -113,7 +111,7 @@ impl Share {
         ensures { result.now ≡ last_behind last.now self.now.lines }
     {
         match self.lines.last() {
-            Some(line) => line.as_slice(),
+            Some(line) => line,
             None => last,
         }
     }
@@ -185,24 +183,19 @@ impl Share {
     }
 
     /// A message goes to a router.
-    #[tactic(auto, using(crate::proofs::Texts::one_text))]
-    pub fn pass(&mut self, alloc: Global, to: Zid, msg: Msg, tag: u64) -> Result<(), AllocError>
+    pub fn pass(&mut self, to: Zid, msg: Msg, tag: u64) -> Result<(), AllocError>
         ensures { OnOk result (self.new ≡ to_router self.old to msg tag) }
     {
-        let line = taken_line(alloc, &self.name, &to, &msg, tag)?;
-        self.taken.push(line)?;
+        self.taken.add_taken(&self.name, &to, &msg, tag)?;
         self.output.push(Sending { to, msg, tag })?;
         Ok(())
     }
 
     /// A message is sent to a client.
-    #[tactic(auto, using(crate::proofs::Texts::one_text))]
-    pub fn deliver(&mut self, alloc: Global, to: Zid, msg: &Msg, tag: u64) -> Result<(), AllocError>
+    pub fn deliver(&mut self, to: Zid, msg: &Msg, tag: u64) -> Result<(), AllocError>
         ensures { OnOk result (self.new ≡ to_client self.old to msg.now tag) }
     {
-        let line = taken_line(alloc, &self.name, &to, msg, tag)?;
-        self.sent.push(line)?;
-        Ok(())
+        self.sent.add_taken(&self.name, &to, msg, tag)
     }
 
     /// It does its turn.
@@ -241,19 +234,19 @@ impl Share {
     {
         let tag = waiting.tag;
         let out = self.hear(alloc, waiting)?;
-        self.send_all(alloc, out, tag)
+        self.send_all(out, tag)
     }
 
     // The router handles a message: what it sends, and the line that tells it.
-    #[tactic(auto, using(crate::proofs::Texts::one_text, crate::proofs::Steps::none_waits))]
+    #[tactic(auto, using(crate::proofs::Steps::none_waits))]
     fn hear(&mut self, alloc: Global, waiting: Waiting) -> Result<Vec<(LinkNo, Msg)>, AllocError>
         requires idle { self.old.input ≡ [] }
         requires may { MayCome self.old.hub.node (Event.From waiting.from waiting.msg) }
         ensures sends { IfOk result (λ v. HubSends self.old.hub (Event.From waiting.from waiting.msg) [] v.items) }
         ensures heard { IfOk result (λ v. self.new ≡ heard self.old waiting) }
     {
-        let line = handled_line(alloc, &self.name, &waiting)?;
-        self.handled.push(line)?;
+        self.handled
+            .add_handled(&self.name, &waiting.name, &waiting.msg, waiting.tag)?;
         let event = Event::From {
             link: waiting.from,
             msg: waiting.msg,
@@ -264,16 +257,11 @@ impl Share {
     }
 
     // What the router sends goes over its links.
-    fn send_all(
-        &mut self,
-        alloc: Global,
-        out: Vec<(LinkNo, Msg)>,
-        tag: u64,
-    ) -> Result<(), AllocError>
+    fn send_all(&mut self, out: Vec<(LinkNo, Msg)>, tag: u64) -> Result<(), AllocError>
         ensures { OnOk result (self.new ≡ all_over self.old tag out.items) }
     {
         for (to, msg) in out {
-            self.send(alloc, to, msg, tag)?;
+            self.send(to, msg, tag)?;
         }
         Ok(())
     }
@@ -285,40 +273,33 @@ impl Share {
         self.hub.peer_at(link)
     }
 
-    fn send(&mut self, alloc: Global, to: LinkNo, msg: Msg, tag: u64) -> Result<(), AllocError>
+    fn send(&mut self, to: LinkNo, msg: Msg, tag: u64) -> Result<(), AllocError>
         ensures { OnOk result (self.new ≡ over self.old tag (link_at self.old.hub.node.links to.0) msg) }
     {
         match self.peer_at(to) {
-            Some(peer) => self.send_to(alloc, &peer, msg, tag),
+            Some(peer) => self.send_to(&peer, msg, tag),
             None => Ok(()),
         }
     }
 
-    fn send_to(&mut self, alloc: Global, peer: &Peer, msg: Msg, tag: u64) -> Result<(), AllocError>
+    fn send_to(&mut self, peer: &Peer, msg: Msg, tag: u64) -> Result<(), AllocError>
         ensures { OnOk result (self.new ≡ (if is_router peer.now.role then to_router self.old peer.now.id msg tag else to_client self.old peer.now.id msg tag)) }
     {
         match peer.role {
-            Role::Router => self.pass(alloc, peer.id, msg, tag),
-            Role::Client => self.deliver(alloc, peer.id, &msg, tag),
+            Role::Router => self.pass(peer.id, msg, tag),
+            Role::Client => self.deliver(peer.id, &msg, tag),
         }
     }
 
     // Its lines are told, in the order of their bytes.
-    #[tactic(auto, using(crate::proofs::Texts::all_texts, crate::proofs::Texts::texts_count))]
     fn tell(&mut self, alloc: Global) -> Result<(), AllocError>
         ensures { OnOk result (self.new ≡ told self.old) }
     {
-        self.kinds = FanSteps {
-            handled: self.handled.len() as u64,
-            taken: self.taken.len() as u64,
-            sent: self.sent.len() as u64,
-        };
-        let mut lines = mem::replace(&mut self.handled, Vec::new(alloc));
-        lines.append(&mut self.taken)?;
-        lines.append(&mut self.sent)?;
-        let lines = in_order(lines)?;
-        self.text = join(alloc, &lines)?;
-        self.lines = lines;
+        self.kinds = self.steps();
+        let handled = mem::replace(&mut self.handled, Lines::new(alloc));
+        let taken = mem::replace(&mut self.taken, Lines::new(alloc));
+        let sent = mem::replace(&mut self.sent, Lines::new(alloc));
+        self.lines = in_order(alloc, &handled, &taken, &sent)?;
         Ok(())
     }
 }
@@ -334,28 +315,4 @@ fn sent_by(alloc: Global, hub: &mut Hub, event: &Event) -> Result<Vec<(LinkNo, M
         Ok(()) => Ok(out),
         Err(_) => Err(AllocError),
     }
-}
-
-// The line that tells that a router has handled a message.
-fn handled_line(alloc: Global, name: &Zid, waiting: &Waiting) -> Result<Vec<u8>, AllocError>
-    ensures { IfOk result (λ v. v.items ≡ line_text (ReportLine.Handled name.now waiting.now.name waiting.now.msg waiting.now.tag)) }
-{
-    let mut line = Vec::new(alloc);
-    put_handled(name, &waiting.name, &waiting.msg, waiting.tag, &mut line)?;
-    Ok(line)
-}
-
-// The line that tells that a router's message went to a neighbour.
-fn taken_line(
-    alloc: Global,
-    name: &Zid,
-    to: &Zid,
-    msg: &Msg,
-    tag: u64,
-) -> Result<Vec<u8>, AllocError>
-    ensures { IfOk result (λ v. v.items ≡ line_text (ReportLine.Taken name.now to.now msg.now tag)) }
-{
-    let mut line = Vec::new(alloc);
-    put_taken(name, to, msg, tag, &mut line)?;
-    Ok(line)
 }

@@ -8,7 +8,7 @@ ghost use Rattle.zr_law_rounds.specs.Told.{AreUnderWay, HasBegun, HaveCome, MayF
 ghost use Rattle.zr_world_spec.specs.World.{WorldState, is_idle};
 
 use crate::receive::{receive, send};
-use std::alloc::{AllocError, Global};
+use std::alloc::AllocError;
 use std::collections::VecDeque;
 use zr_id::zid::Zid;
 use zr_law_rounds::{all_have_begun, end_goes, start_goes};
@@ -17,11 +17,7 @@ use zr_world_gang::share::Share;
 
 /// What waits at the ends of a world begins: what is on a wire is to be handled, and what is queued has been taken. Out of memory too where something waits at
 /// an end that is not up; no script comes to such a world.
-pub fn begin_all(
-    alloc: Global,
-    shares: &mut [Share],
-    ends: Vec<((Zid, Zid), WorldEnd)>,
-) -> Result<(), AllocError>
+pub fn begin_all(shares: &mut [Share], ends: Vec<((Zid, Zid), WorldEnd)>) -> Result<(), AllocError>
     ensures gone { OnOk result ((w : WorldState) → MayFan w shares.old → ends.items ≡ w.ends → AreUnderWay w shares.new) }
     ensures stay { OnOk result (Stay shares.old shares.new) }
 {
@@ -30,18 +26,12 @@ pub fn begin_all(
     end_goes();
     all_have_begun();
     for ((router, neighbour), end) in ends {
-        begin(alloc, shares, router, neighbour, end)?;
+        begin(shares, router, neighbour, end)?;
     }
     Ok(())
 }
 
-fn begin(
-    alloc: Global,
-    shares: &mut [Share],
-    router: Zid,
-    neighbour: Zid,
-    end: WorldEnd,
-) -> Result<(), AllocError>
+fn begin(shares: &mut [Share], router: Zid, neighbour: Zid, end: WorldEnd) -> Result<(), AllocError>
     ensures { OnOk result (HasBegun (router, neighbour) end shares.old shares.new) }
 {
     if is_stuck(&end) {
@@ -50,7 +40,7 @@ fn begin(
     let is_router = is_among(shares, &neighbour);
     let (wire, queue) = end.into_waiting();
     receive_all(shares, router, neighbour, wire)?;
-    send_all(alloc, shares, router, neighbour, is_router, queue)
+    send_all(shares, router, neighbour, is_router, queue)
 }
 
 // Whether something waits at an end that is not up.
@@ -84,7 +74,6 @@ fn receive_all(
 
 // What was queued for a neighbour has been taken.
 fn send_all(
-    alloc: Global,
     shares: &mut [Share],
     router: Zid,
     neighbour: Zid,
@@ -94,7 +83,7 @@ fn send_all(
     ensures { OnOk result (HaveCome (went is_router (router, neighbour) queue.items) (went_weighs is_router (router, neighbour) queue.items) shares.old shares.new) }
 {
     for x in queue {
-        send(alloc, shares, router, neighbour, is_router, x.msg, x.tag)?;
+        send(shares, router, neighbour, is_router, x.msg, x.tag)?;
     }
     Ok(())
 }

@@ -32,7 +32,7 @@ pub fn fan<R: Threads + Sync, G: Gang>(
     // A law: it does nothing, and brings its clause.
     rounds_tell();
     let mut shares = shares;
-    begin_all(alloc, &mut shares, ends)?;
+    begin_all(&mut shares, ends)?;
     let shares = all_rounds(rt, alloc, gang, shares)?;
     told(rt, alloc, gang, shares)
 }

@@ -6,7 +6,7 @@ ghost use Rattle.zr_law_fan.specs.Samples.{Handling, tagged};
 ghost use Rattle.zr_law_rounds.specs.Told.{HaveCome, nothing, went, went_weighs};
 ghost use Rattle.zr_world_gang.specs.Shares.{ShareState};
 
-use std::alloc::{AllocError, Global};
+use std::alloc::AllocError;
 use zr_id::zid::Zid;
 use zr_msg::msg::Msg;
 use zr_world_ends::end::is_sample;
@@ -35,7 +35,6 @@ pub fn receive(
 
 /// A sample that was queued at an end goes to the neighbour. Out of memory too where the end's router is none of these.
 pub fn send(
-    alloc: Global,
     shares: &mut [Share],
     router: Zid,
     neighbour: Zid,
@@ -50,9 +49,9 @@ pub fn send(
     };
     let share = &mut shares[place];
     if is_router {
-        share.pass(alloc, neighbour, msg, tag)
+        share.pass(neighbour, msg, tag)
     } else {
-        share.deliver(alloc, neighbour, &msg, tag)
+        share.deliver(neighbour, &msg, tag)
     }
 }
 

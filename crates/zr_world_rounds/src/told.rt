@@ -49,7 +49,7 @@ pub fn told<R: Threads + Sync, G: Gang>(
 fn lines_of(alloc: Global, shares: &[Share]) -> Result<Vec<u8>, AllocError>
     ensures { IfOk result (λ t. AllByRecursion (λ s. IsTold s) shares.now → t.items ≡ concat (ranked (flat_map (λ s. s.lines) shares.now))) }
 {
-    let mut text = Vec::new(alloc);
+    let mut text = Vec::with_capacity(alloc, bytes_in(shares))?;
     let mut last: &[u8] = &[];
     for share in shares {
         if !share.is_behind(last) {
@@ -59,6 +59,15 @@ fn lines_of(alloc: Global, shares: &[Share]) -> Result<Vec<u8>, AllocError>
         last = share.last_line(last);
     }
     Ok(text)
+}
+
+// How many bytes the text of shares that are told has, or at least as many as there can be.
+fn bytes_in(shares: &[Share]) -> usize {
+    let mut sum: usize = 0;
+    for share in shares {
+        sum = sum.saturating_add(share.text().len());
+    }
+    sum
 }
 
 // How many lines of each kind there are.

@@ -1,4 +1,5 @@
-use Rattle.std.proofs.Common.{◌≡◌, List, [], ◌∷◌, ◌++◌, Some, map, sym, ap, subst}
+use Rattle.std.proofs.Common.{◌≡◌, List, [], ◌∷◌, ◌++◌, Some, sym, ap, subst}
+use Rattle.std.specs.List.{concat}
 use Rattle.zr_msg.specs.declared.peer.LinkPeer.{LinkPeer}
 use Rattle.zr_node_spec.specs.Tables.{link_to}
 use Rattle.zr_world_gang.specs.declared.message.Waiting.{Waiting}
@@ -14,7 +15,7 @@ invariant_of-self-2 c =
 
 pub returns : goal.returns
 returns c =
-    let s : ShareState = record { name = c.self.inside.name; hub = c.self.inside.hub; input = c.self.inside.input.items; output = c.self.inside.output.items; handled = map (λ v. v.items) c.self.inside.handled.items; taken = map (λ v. v.items) c.self.inside.taken.items; sent = map (λ v. v.items) c.self.inside.sent.items; lines = map (λ v. v.items) c.self.inside.lines.items; text = c.self.inside.text.items; kinds = c.self.inside.kinds } in
+    let s : ShareState = record { name = c.self.inside.name; hub = c.self.inside.hub; input = c.self.inside.input.items; output = c.self.inside.output.items; handled = c.self.inside.handled; taken = c.self.inside.taken; sent = c.self.inside.sent; lines = c.self.inside.lines; text = concat c.self.inside.lines; kinds = c.self.inside.kinds } in
     let now : ShareState = with_input s c.push.new.self.items in
     subst (λ (z : ShareState). (l : LinkPeer) × (link_to z.hub.node.links c.args.from ≡ Some l) × (now ≡ with_input z (z.input ++ record { from = l.link; name = c.args.from; msg = c.args.msg; tag = c.args.tag } ∷ []))) c.self.view_is
     (received s now c.args.from c.args.msg c.args.tag c.in-Some.link (sym c.in-Some.ensures) (ap (with_input s) c.in_ok-push.ensures.items))
