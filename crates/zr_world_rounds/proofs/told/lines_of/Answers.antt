@@ -4,7 +4,7 @@ use Rattle.zr_world_rounds.proofs.Telling.{joined_step}
 use Rattle.zr_world_rounds.proofs.told.lines_of.Goals as goal
 
 pub loop-share-init : goal.loop-share-init
-loop-share-init c = λ told. (c.new-text.ensures.items, refl, refl)
+loop-share-init c = λ told. (c.in_ok-text.ensures.items, refl, refl)
 
 pub loop-share-preserved : goal.loop-share-preserved
 loop-share-preserved c =
