@@ -55,15 +55,13 @@ pub fn send(
     }
 }
 
-// The place of a router's share.
+// The place of a router's share. Shares stand in the order of their routers' names; where they don't, none may be found.
 fn place_of(shares: &[Share], name: &Zid) -> Option<usize>
     ensures within { IfSome result (λ i. i < length shares.now) }
     ensures named { IfSome result (λ i. (d : ShareState) → is_named name.now (slice_index_or shares.now i d).name ≡ true) }
 {
-    for (place, share) in shares.iter().enumerate() {
-        if *name == share.name() {
-            return Some(place);
-        }
+    match shares.binary_search_by_key(name, |share| share.name()) {
+        Ok(place) => Some(place),
+        Err(_) => None,
     }
-    None
 }
