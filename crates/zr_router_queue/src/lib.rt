@@ -15,4 +15,5 @@ mod written;
 pub use event::{enter, prepare};
 pub use link_end::{Closing, LinkSender};
 pub use note::{Queued, is_queued};
+pub use plan::may_drop;
 pub use queue::{LinkOf, parcels_stay_queued};

@@ -126,6 +126,20 @@ impl LinkSender {
         self.link
     }
 
+    /// The most bytes of a batch on the link.
+    pub fn batch(&self) -> u16
+        ensures { result ≡ self.now.queue.outbox.batch }
+    {
+        self.outbox.batch()
+    }
+
+    /// How many of the ring's slots were free as it was asked last, less those that were filled since.
+    pub fn free(&self) -> u32
+        ensures { result ≡ self.now.free }
+    {
+        self.free
+    }
+
     /// Whether an event has closed the link, and how.
     pub fn closing(&self) -> Option<Closing>
         ensures asked { option_map (λ c. c.asked) result ≡ self.now.queue.closed }

@@ -78,8 +78,8 @@ fn is_droppable(sent: &[(LinkNo, Msg)], link: LinkNo) -> bool
     only.unwrap_or(false)
 }
 
-// Whether a message is a sample that may be dropped.
-fn may_drop(msg: &Msg) -> bool
+/// Whether a message is a sample that may be dropped.
+pub fn may_drop(msg: &Msg) -> bool
     ensures { result ≡ may_drop msg.now }
 {
     match msg {
