@@ -1,4 +1,7 @@
-//! How crowded rings are, as far as an event that comes asks.
+//! How much room rings have, as far as an event that comes asks.
+
+ghost use Rattle.std.specs.Prelude.{◌≡◌, ◌<◌, ◌≤◌, ◌+◌, ◌-◌, ◌^◌, ℕ, min};
+ghost use Rattle.zr_router_room.specs.declared.crowds.Outlook.TheVariants as outlooks;
 
 use crate::links::bit_of;
 use zr_id::link::LinkNo;
@@ -8,16 +11,20 @@ use zr_id::link::LinkNo;
 pub enum Outlook {
     /// For nothing.
     Clear,
-    /// For the rings of these links, a bit for each, that have too little room. The senders to all that it may reach would rest so long together, in
-    /// milliseconds, which changes as the rings are emptied.
-    Full { links: u128, crowd_ms: u64 },
+    /// For the rings of these links, a bit for each, that have too little room. All that it may reach have so many free slots together, which
+    /// changes as they are emptied.
+    Full { links: u128, free: u64 },
     /// For another event that has waited for a ring, which has room now.
     Later,
 }
 
 impl Outlook {
     /// The links, a bit for each, whose rings it waits for since they have too little room.
-    pub fn wanted(self) -> u128 {
+    pub fn wanted(self) -> u128
+        ensures clear { self ≡ outlooks.Clear → result ≡ 0 }
+        ensures full { (links : ℕ) → (free : ℕ) → self ≡ outlooks.Full links free → result ≡ links }
+        ensures later { self ≡ outlooks.Later → result ≡ 0 }
+    {
         match self {
             Outlook::Full { links, .. } => links,
             Outlook::Clear | Outlook::Later => 0,
@@ -25,95 +32,61 @@ impl Outlook {
     }
 }
 
-/// For how long the sender of a parcel rests whose ring has no room, in milliseconds: longer than any other.
-const FULL_MS: u64 = 1_000;
-
-/// For how long the sender of a parcel rests at most where its ring has room for a few more, and for some.
-const FEW_ROOM_MS: u64 = 12;
-
-const SOME_ROOM_MS: u64 = 1;
-
-/// How many parcels are a few, and some.
-const FEW_PARCELS: u64 = 4;
-
-const SOME_PARCELS: u64 = 32;
-
-/// How crowded some rings are: whether one has room for a parcel, for how long the senders of one rest together, in milliseconds, and the links, a bit
-/// for each, whose rings have no room, room for a few parcels at most, for some at most, and for fewer than before a sender rests.
+/// The rings that an event may need: the links, a bit for each, of those that lack room for its parcels, and the free slots of all.
 #[derive(Clone, Copy)]
 pub struct Crowds {
-    has_room: bool,
-    sum_ms: u64,
-    full: u128,
-    few_left: u128,
-    some_left: u128,
-    crowded: u128,
+    parcels: u64,
+    lacking: u128,
+    free: u64,
 }
 
 impl Crowds {
-    /// Of no ring.
-    pub fn none() -> Crowds {
+    /// No ring yet, of an event that has so many parcels for each.
+    pub fn none(parcels: u64) -> Crowds
+        ensures { (result.parcels ≡ parcels) × (result.lacking ≡ 0) × (result.free ≡ 0) }
+    {
         Crowds {
-            has_room: false,
-            sum_ms: 0,
-            full: 0,
-            few_left: 0,
-            some_left: 0,
-            crowded: 0,
+            parcels,
+            lacking: 0,
+            free: 0,
         }
     }
 
-    /// And of that of one more link. The sender of a parcel rests so long for it, in milliseconds; None where the ring has no room.
-    pub fn add(&mut self, link: LinkNo, rest_ms: Option<u64>) {
-        let bit = bit_of(link);
-        let crowd_ms = match rest_ms {
-            Some(rest_ms) => rest_ms,
-            None => FULL_MS,
-        };
-        self.has_room = self.has_room || rest_ms.is_some();
-        self.sum_ms = self.sum_ms.saturating_add(crowd_ms);
-        self.full |= bit_where(bit, rest_ms.is_none());
-        self.few_left |= bit_where(bit, crowd_ms > FEW_ROOM_MS);
-        self.some_left |= bit_where(bit, crowd_ms > SOME_ROOM_MS);
-        self.crowded |= bit_where(bit, crowd_ms > 0);
+    /// And that of one more link, which has so many free slots.
+    pub fn add(&mut self, link: LinkNo, free: u32)
+        ensures parcels { self.new.parcels ≡ self.old.parcels }
+        ensures room { self.old.parcels ≤ free → self.new.lacking ≡ self.old.lacking }
+        ensures free { self.new.free ≡ min (self.old.free + free) (2 ^ 64 - 1) }
+    {
+        if u64::from(free) < self.parcels {
+            self.lacking |= bit_of(link);
+        }
+        self.free = self.free.saturating_add(u64::from(free));
     }
 
-    /// What an event that has so many parcels for each of these rings is to wait for.
-    pub fn outlook(&self, parcels: u64) -> Outlook {
-        let links = self.lacking(parcels);
-        if links == 0 {
+    /// What the event is to wait for.
+    pub fn outlook(&self) -> Outlook
+        ensures clear { self.now.lacking ≡ 0 → result ≡ outlooks.Clear }
+        ensures full { 0 < self.now.lacking → result ≡ outlooks.Full self.now.lacking self.now.free }
+    {
+        if self.lacking == 0 {
             return Outlook::Clear;
         }
         Outlook::Full {
-            links,
-            crowd_ms: self.sum_ms,
+            links: self.lacking,
+            free: self.free,
         }
     }
 
     /// What an event is to wait for that lets others go first, which wait for these rings.
-    pub fn outlook_behind(&self) -> Outlook {
-        if self.has_room {
+    pub fn outlook_behind(&self) -> Outlook
+        ensures later { 0 < self.now.free → result ≡ outlooks.Later }
+        ensures clear { self.now.free ≡ 0 → result ≡ outlooks.Clear }
+    {
+        if self.free > 0 {
             Outlook::Later
         } else {
             Outlook::Clear
         }
     }
-
-    // The links whose rings lack room for so many parcels.
-    fn lacking(&self, parcels: u64) -> u128 {
-        if parcels == 1 {
-            self.full
-        } else if parcels <= FEW_PARCELS {
-            self.few_left
-        } else if parcels <= SOME_PARCELS {
-            self.some_left
-        } else {
-            self.crowded
-        }
-    }
-}
-
-// The bit where this holds, and none elsewhere.
-fn bit_where(bit: u128, holds: bool) -> u128 {
-    if holds { bit } else { 0 }
 }

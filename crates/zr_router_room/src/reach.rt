@@ -11,18 +11,16 @@ use zr_msg::decl::Kind;
 use zr_msg::msg::Msg;
 use zr_msg::peer::{LinkPeer, Role};
 use zr_router_core::hub::Hub;
+use zr_router_queue::may_drop;
 
-/// How many bytes of a body a parcel holds, about.
-const PARCEL_BYTES: usize = 65_000;
+/// How many bytes a parcel has beside a message's key and body, about.
+const HEAD_BYTES: usize = 16;
 
 /// How many parcels are taken for what answers an interest: it may be many messages, in few parcels.
 const TOLD_PARCELS: u64 = 4;
 
 /// How many parcels are taken for what may end a query for the latest replies, which leave with the final.
 const LATEST_PARCELS: u64 = 32;
-
-/// The bit of a quality of service that asks not to drop the sample (Zenoh protocol 1.0, "QoS").
-const DONT_DROP: u64 = 0x08;
 
 /// What comes over a link.
 #[derive(Clone, Copy)]
@@ -37,11 +35,8 @@ impl<'a> Coming<'a> {
     /// Whether it is a sample that may be dropped.
     pub fn may_be_dropped(self) -> bool {
         match self {
-            Coming::Message(Msg::Push { content, .. }) => match content.extras().qos {
-                Some(qos) => qos & DONT_DROP == 0,
-                None => true,
-            },
-            _ => false,
+            Coming::Message(msg) => may_drop(msg),
+            Coming::Down => false,
         }
     }
 }
@@ -70,14 +65,9 @@ impl<'a> View<'a> {
         reached
     }
 
-    /// How many parcels an event may have for one of the links that it reaches, about.
-    pub fn parcels(&self, coming: Coming<'_>, reached: u128) -> u64 {
+    /// How many parcels an event may have for one of the links that it reaches, about, where a batch for each holds so many bytes at least.
+    pub fn parcels(&self, coming: Coming<'_>, reached: u128, batch: u16) -> u64 {
         match coming {
-            Coming::Message(
-                Msg::Push { content, .. }
-                | Msg::Request { content, .. }
-                | Msg::Response { content, .. },
-            ) => 1 + (content.body().as_slice().len() / PARCEL_BYTES) as u64,
             Coming::Message(Msg::Interest { .. }) => TOLD_PARCELS,
             Coming::Message(Msg::Final { .. } | Msg::State { .. }) | Coming::Down => {
                 if self.askers.may_want_latest(reached) {
@@ -86,8 +76,21 @@ impl<'a> View<'a> {
                     1
                 }
             }
-            Coming::Message(_) => 1,
+            Coming::Message(msg) => match content_of(msg) {
+                Some(content) => parcels_of(content, batch),
+                None => 1,
+            },
         }
+    }
+
+    /// Whom these links, a bit for each, lead to: routers, where one of them does.
+    pub fn role_of(&self, links: u128) -> Role {
+        for end in self.hub.links() {
+            if links & bit_of(end.link) != 0 && end.peer.role == Role::Router {
+                return Role::Router;
+            }
+        }
+        Role::Client
     }
 
     // Whether an event over a link may have something for another one, or for the same. Where it says no nothing is sent, as far as the tables show.
@@ -162,6 +165,53 @@ impl<'a> View<'a> {
             }),
             Role::Router => true,
         }
+    }
+}
+
+// How many batches of so many bytes hold a message with these contents, about.
+fn parcels_of(content: &Content, batch: u16) -> u64 {
+    let room = usize::from(batch).saturating_sub(HEAD_BYTES).max(1);
+    let full = (bytes_of(content) / room) as u64;
+    full.saturating_add(1)
+}
+
+fn bytes_of(content: &Content) -> usize {
+    let key = content.key().text().len();
+    key.saturating_add(content.body().as_slice().len())
+}
+
+/// How many bytes a message has on the wire, about. Those without a body are taken for short.
+pub(crate) fn size_of(msg: &Msg) -> usize {
+    match content_of(msg) {
+        Some(content) => HEAD_BYTES.saturating_add(bytes_of(content)),
+        None => HEAD_BYTES,
+    }
+}
+
+// What a message carries that has a body.
+fn content_of(msg: &Msg) -> Option<&Content> {
+    match msg {
+        Msg::Push { content, .. } | Msg::Request { content, .. } | Msg::Response { content, .. } =>
+            { Some(content) }
+        Msg::Sub { .. }
+        | Msg::Unsub { .. }
+        | Msg::Token { .. }
+        | Msg::Untoken { .. }
+        | Msg::Able { .. }
+        | Msg::Unable { .. }
+        | Msg::Interest { .. }
+        | Msg::EndInterest { .. }
+        | Msg::ToldSub { .. }
+        | Msg::ToldAble { .. }
+        | Msg::ToldUnsub { .. }
+        | Msg::ToldUnable { .. }
+        | Msg::ToldToken { .. }
+        | Msg::ToldUntoken { .. }
+        | Msg::ToldEnd { .. }
+        | Msg::Final { .. }
+        | Msg::State { .. }
+        | Msg::Step { .. }
+        | Msg::Snap { .. } => None,
     }
 }
 
