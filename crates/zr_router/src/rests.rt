@@ -8,44 +8,41 @@ use std::alloc::{AllocError, Global};
 use zr_id::link::LinkNo;
 use zr_msg::event::Event;
 use zr_msg::msg::Msg;
-use zr_msg::peer::Role;
 use zr_router_queue::LinkSender;
 use zr_router_room::{Crowds, bit_of};
-
-/// For how long at most who reads from another router rests for all that one read gave, in milliseconds: that router closes a link on which it can't
-/// write for ten seconds, and many clients are behind it.
-const MOST_ROUTER_REST_MS: u64 = 100;
-
-/// For how long at most all that one read gave from another router waits for rings, in milliseconds. With the rests that is a quarter of a second.
-const MOST_ROUTER_WAIT_MS: u64 = 150;
 
 /// For how long at most a link that goes down waits for rings, in milliseconds: its identifier is taken meanwhile.
 pub(crate) const MOST_DOWN_WAIT_MS: u64 = 500;
 
-/// For how long at most who reads from a link to a peer of that role rests for all that one read gave, in milliseconds. A client waits as long as its
-/// messages ask for, and nobody else does.
-pub(crate) fn most_rest_ms(role: Role) -> u64 {
-    match role {
-        Role::Client => u64::MAX,
-        Role::Router => MOST_ROUTER_REST_MS,
+/// For how long at most an answer of the inner client waits for rings, in milliseconds: it has more to answer, so one slow asker doesn't hold up all
+/// others.
+pub(crate) const MOST_ANSWER_WAIT_MS: u64 = 150;
+
+/// For how long who brought an event is to rest, in milliseconds, and for the rings of which links, a bit for each.
+#[derive(Clone, Copy)]
+pub struct Rest {
+    pub ms: u64,
+    pub links: u128,
+}
+
+impl Rest {
+    /// It isn't to rest.
+    pub(crate) fn none() -> Rest {
+        Rest { ms: 0, links: 0 }
     }
 }
 
-/// For how long at most all that one read gave from a peer of that role waits for rings, in milliseconds.
-pub(crate) fn most_wait_ms(role: Role) -> u64 {
-    match role {
-        Role::Client => u64::MAX,
-        Role::Router => MOST_ROUTER_WAIT_MS,
-    }
-}
-
-/// For how long who brought the event that is prepared is to rest, in milliseconds: as long as the most crowded ring asks for.
-pub(crate) fn rest_for(ends: &[LinkSender]) -> u64 {
-    let mut most = 0u64;
+/// How who brought the event that is prepared is to rest: as long as the most crowded ring asks for.
+pub(crate) fn rest_for(ends: &[LinkSender]) -> Rest {
+    let mut rest = Rest::none();
     for end in ends {
-        most = most.max(end.rest_ms());
+        let ms = end.rest_ms();
+        if ms > 0 {
+            rest.ms = rest.ms.max(ms);
+            rest.links |= bit_of(end.link());
+        }
     }
-    most
+    rest
 }
 
 /// Of some links those that an event leaves as they were: not one that comes up or goes down.
@@ -69,25 +66,27 @@ pub(crate) fn pressed_by(ends: &[LinkSender], sent: &[(LinkNo, Msg)], before: u1
     pressed
 }
 
-/// How crowded the rings of some links are once an event is entered that is prepared and closes these.
-pub(crate) fn crowds_of(ends: &[LinkSender], links: u128, closed: &[LinkNo]) -> Crowds {
-    let mut full = 0;
-    for link in closed {
-        full |= bit_of(*link);
-    }
-    let mut crowds = Crowds::none();
+/// How much room the rings of some links have, which were asked, for an event that has so many parcels for each. Nothing more comes to a link that an
+/// event has closed.
+pub(crate) fn crowds_of(ends: &[LinkSender], links: u128, parcels: u64) -> Crowds {
+    let mut crowds = Crowds::none(parcels);
     for end in ends {
-        let bit = bit_of(end.link());
-        if links & bit != 0 {
-            let rest_ms = if full & bit != 0 {
-                None
-            } else {
-                Some(end.rest_ms())
-            };
-            crowds.add(end.link(), rest_ms);
+        if links & bit_of(end.link()) != 0 && end.closing().is_none() {
+            crowds.add(end.link(), end.free());
         }
     }
     crowds
+}
+
+/// The least number of bytes of a batch on one of these links.
+pub(crate) fn least_batch(ends: &[LinkSender], links: u128) -> u16 {
+    let mut least = u16::MAX;
+    for end in ends {
+        if links & bit_of(end.link()) != 0 {
+            least = least.min(end.batch());
+        }
+    }
+    least
 }
 
 /// A short message for each of these links, which none of them is ever sent.

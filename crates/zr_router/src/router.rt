@@ -12,6 +12,7 @@ ghost use Rattle.zr_router.specs.Allowed.{AreAllowed};
 ghost use Rattle.zr_router.specs.Refusals.{RefusesMessage, most_sessions};
 
 use crate::admit::MOST_SESSIONS;
+use crate::rests::{MOST_ANSWER_WAIT_MS, MOST_DOWN_WAIT_MS, Rest};
 use crate::tables::{Due, Tables};
 use std::alloc::{AllocError, Global};
 use std::marker::PhantomData;
@@ -98,9 +99,9 @@ impl<B: Naming, R: Wait + Drop> Router<B, R> {
     // wakes it earlier.
     fn follow(&self, due: Due) {
         self.ring(due.links);
-        if due.rest_ms > 0 {
+        if due.rest.ms > 0 {
             let parker = Parker::new();
-            parker.park_timeout(&self.rt, Duration::from_millis(due.rest_ms));
+            parker.park_timeout(&self.rt, Duration::from_millis(due.rest.ms));
         }
     }
 
@@ -116,13 +117,18 @@ impl<B: Naming, R: Wait + Drop> Router<B, R> {
         for _ in 0..MOST_LOOKS {
             let mut tables = self.tables.lock(&self.rt);
             let outlook = tables.outlook(self.alloc, link, coming);
-            let most_ms = tables.most_wait_ms(link, coming);
-            let Some(rest_ms) = patience.rest_ms(outlook, tables.moves(), most_ms) else {
+            let left_ms = tables.wait_left_ms(link, coming, outlook);
+            let Some(rest_ms) = patience.rest_ms(outlook, tables.moves(), left_ms) else {
                 if patience.has_asked() {
                     tables.release();
                 }
                 return tables;
             };
+            let rest = Rest {
+                ms: rest_ms,
+                links: outlook.wanted(),
+            };
+            let rest_ms = tables.rest(link, rest);
             drop(tables);
             parker.park_timeout(&self.rt, Duration::from_millis(rest_ms));
         }
@@ -176,18 +182,16 @@ impl<B: Naming, R: Wait + Drop> Router<B, R> {
         ensures stopped { IfErr result (λ e. (more : List Msg) × ComesUpTo link (λ h m x. RefusesMessage B.policy B.me h link m x) (into_iter_items rest.old) more (sight pass.old) (sight pass.new) × StopsAt (λ m x. RefusesMessage B.policy B.me (seen pass.new) link m x) more e) }
     {
         let mut tables = self.tables.lock(&self.rt);
+        tables.begin(link, pace);
         if tables.is_pressed(pace) {
             drop(tables);
             return self.deliver_next(pass, link, rest, pace);
         }
         let result = tables.deliver_some(self.alloc, &self.history, pass, link, rest);
-        let most = tables.most_rest_ms(link);
-        let due = tables.take_due();
+        let mut due = tables.take_due();
+        due.rest.ms = tables.rest(link, due.rest);
         drop(tables);
-        self.follow(Due {
-            links: due.links,
-            rest_ms: pace.rest_ms(due.rest_ms, most),
-        });
+        self.follow(due);
         result
     }
 
@@ -217,14 +221,11 @@ impl<B: Naming, R: Wait + Drop> Router<B, R> {
         pace.patience.next();
         let mut tables = self.lock_for(link, Coming::Message(&msg), &mut pace.patience);
         let result = tables.deliver_next(self.alloc, &self.history, pass, link, msg);
-        let most = tables.most_rest_ms(link);
-        let due = tables.take_due();
+        let mut due = tables.take_due();
+        due.rest.ms = tables.rest(link, due.rest);
         drop(tables);
         pace.came();
-        self.follow(Due {
-            links: due.links,
-            rest_ms: pace.rest_ms(due.rest_ms, most),
-        });
+        self.follow(due);
         result
     }
 
@@ -281,7 +282,7 @@ impl<B: Naming, R: Wait + Drop> Port for Router<B, R> {
     }
 
     fn deliver(&self, pass: &mut Pass<Entry>, link: LinkNo, msg: Msg) -> Result<(), DeliverError> {
-        let mut patience = Patience::brief();
+        let mut patience = Patience::within(MOST_ANSWER_WAIT_MS);
         let mut tables = self.lock_for(link, Coming::Message(&msg), &mut patience);
         let result = tables.deliver(self.alloc, &self.history, pass, link, msg);
         let due = tables.take_due();
@@ -314,7 +315,7 @@ impl<B: Naming, R: Wait + Drop> Port for Router<B, R> {
         link: LinkNo,
         reason: Option<u8>,
     ) -> Result<(), DownError> {
-        let mut patience = Patience::new();
+        let mut patience = Patience::within(MOST_DOWN_WAIT_MS);
         let mut tables = self.lock_for(link, Coming::Down, &mut patience);
         let result = tables.down(self.alloc, &self.history, pass, link, reason);
         let due = tables.take_due();

@@ -40,8 +40,7 @@ use crate::ends::{closing_of, taken_out};
 use crate::failure::Failure;
 use crate::former::tells_former;
 use crate::rests::{
-    MOST_DOWN_WAIT_MS, crowds_of, due_of, kept_at, most_rest_ms, most_wait_ms, parcel_each,
-    pressed_by, rest_for,
+    Rest, crowds_of, due_of, kept_at, least_batch, parcel_each, pressed_by, rest_for,
 };
 use std::alloc::{AllocError, Global};
 use std::marker::PhantomData;
@@ -61,7 +60,7 @@ use zr_ring::{Giver, Taker};
 use zr_router_core::hub::Hub;
 use zr_router_glance::glance_at;
 use zr_router_queue::{LinkSender, Queued, enter, prepare};
-use zr_router_room::{Askers, Coming, Crowds, Outlook, Pace, View, bit_of};
+use zr_router_room::{Askers, Coming, Crowds, MOST_LINKS, Outlook, Pace, Rested, View, bit_of};
 
 /// How many entries a history has at most.
 const MOST_ENTRIES: u64 = u64::MAX;
@@ -79,8 +78,8 @@ pub struct Tables<B: Naming> {
     kept: Kept<Entry>,
     // the links whose writers have something new, a bit for each
     due: u128,
-    // for how long who brought the last event is to rest, in milliseconds
-    rest_ms: u64,
+    // how who brought the last event is to rest
+    rest: Rest,
     // whether a writer is to be woken at once, since the last event leaves its ring half full
     presses: bool,
     // whether the router has heard that its identifier was in use before
@@ -91,6 +90,8 @@ pub struct Tables<B: Naming> {
     wanted: u128,
     // how many events have got in that had waited
     moves: u64,
+    // of each link for how long who reads from it has rested, if a router is behind it
+    rested: Vec<Rested>,
     is_spent: bool,
     of: PhantomData<B>,
     ghost named: { kept_name kept ≡ B.history },
@@ -113,13 +114,14 @@ impl<B: Naming> Drop for Tables<B> {
             ends: _ends,
             kept: _kept,
             due: _due,
-            rest_ms: _rest_ms,
+            rest: _rest,
             presses: _presses,
             used_before: _used_before,
             askers: _askers,
             pressed: _pressed,
             wanted: _wanted,
             moves: _moves,
+            rested: _rested,
             is_spent: _is_spent,
             of: _of,
         } = self;
@@ -131,8 +133,8 @@ impl<B: Naming> Drop for Tables<B> {
 pub struct Due {
     /// The links whose writers have something new, a bit for each.
     pub links: u128,
-    /// For how long the thread rests, in milliseconds: it has brought an event that leaves a ring crowded, whose writer is to run before the next one.
-    pub rest_ms: u64,
+    /// How the thread rests: it has brought an event that leaves a ring crowded, whose writer is to run before the next one.
+    pub rest: Rest,
 }
 
 // What has come to the router, with what the call said beside it.
@@ -167,13 +169,14 @@ impl<B: Naming> Tables<B> {
             ends: Vec::new(alloc),
             kept,
             due: 0,
-            rest_ms: 0,
+            rest: Rest::none(),
             presses: false,
             used_before: false,
             askers: Askers::new(alloc)?,
             pressed: 0,
             wanted: 0,
             moves: 0,
+            rested: Vec::from_elem(alloc, Rested::never(), MOST_LINKS as usize)?,
             is_spent: false,
             of: PhantomData,
         })
@@ -284,7 +287,7 @@ impl<B: Naming> Tables<B> {
             if let Err(e) = self.deliver_next(alloc, history, pass, link, msg) {
                 return Err(e);
             }
-            if self.presses || self.rest_ms > 0 {
+            if self.presses || self.rest.ms > 0 {
                 return Ok(());
             }
         }
@@ -331,23 +334,55 @@ impl<B: Naming> Tables<B> {
         self.is_spent
     }
 
-    /// For how long at most who reads from a link rests for all that one read gave, in milliseconds.
-    pub fn most_rest_ms(&self, link: LinkNo) -> u64 {
-        match self.hub.peer_at(link) {
-            Some(peer) => most_rest_ms(peer.role),
-            None => 0,
+    /// For how long what comes over a link may wait yet for the rings that it lacks room in, in milliseconds. What comes over a link that an event has
+    /// closed is refused, so it doesn't wait.
+    pub(crate) fn wait_left_ms(&self, link: LinkNo, coming: Coming<'_>, outlook: Outlook) -> u64 {
+        match (coming, closing_of(self.ends.as_slice(), link)) {
+            (Coming::Message(_), Some(_)) => 0,
+            (Coming::Message(_), None) | (Coming::Down, _) => {
+                self.rest_left_ms(link, outlook.wanted())
+            }
         }
     }
 
-    /// For how long at most what comes over a link waits for rings that it may need, for all that one read gave, in milliseconds.
-    pub(crate) fn most_wait_ms(&self, link: LinkNo, coming: Coming<'_>) -> u64 {
-        match (coming, self.hub.peer_at(link)) {
-            (Coming::Message(_), Some(peer)) => match closing_of(self.ends.as_slice(), link) {
-                Some(_) => 0, // what comes over it is refused
-                None => most_wait_ms(peer.role),
-            },
-            (Coming::Down, Some(_)) => MOST_DOWN_WAIT_MS,
-            (_, None) => 0,
+    // For how long who reads from a link may rest yet for the rings of others, in milliseconds. Who reads from a client rests as long as is asked: nobody
+    // else is behind it.
+    fn rest_left_ms(&self, link: LinkNo, others: u128) -> u64 {
+        let Some(peer) = self.hub.peer_at(link) else {
+            return 0;
+        };
+        match (peer.role, self.rested.get(link.0 as usize)) {
+            (Role::Client, _) => u64::MAX,
+            (Role::Router, Some(rested)) => rested.left_ms(self.view().role_of(others)),
+            (Role::Router, None) => 0,
+        }
+    }
+
+    /// Who reads from a link rests so, or as long as it may; the answer is how long that is, in milliseconds.
+    pub(crate) fn rest(&mut self, link: LinkNo, asked: Rest) -> u64
+        ensures same { (entries self.new ≡ entries self.old) × (is_spent self.new ≡ is_spent self.old) × (open_links self.new ≡ open_links self.old) }
+    {
+        let Some(peer) = self.hub.peer_at(link) else {
+            return 0;
+        };
+        let from = peer.role;
+        let role = self.view().role_of(asked.links);
+        match (from, self.rested.get_mut(link.0 as usize)) {
+            (Role::Client, _) => asked.ms,
+            (Role::Router, Some(rested)) => rested.rest(role, asked.ms),
+            (Role::Router, None) => 0,
+        }
+    }
+
+    /// Messages that one read gave are to be delivered.
+    pub(crate) fn begin(&mut self, link: LinkNo, pace: &mut Pace)
+        ensures same { (entries self.new ≡ entries self.old) × (is_spent self.new ≡ is_spent self.old) × (open_links self.new ≡ open_links self.old) }
+    {
+        let Some(is_all) = pace.begin() else {
+            return;
+        };
+        if let Some(rested) = self.rested.get_mut(link.0 as usize) {
+            rested.read(is_all);
         }
     }
 
@@ -383,11 +418,12 @@ impl<B: Naming> Tables<B> {
     {
         if coming.may_be_dropped() {
             let reached = self.view().reached(from, coming, self.wanted);
-            return self.crowds(alloc, reached).outlook_behind();
+            return self.crowds(alloc, reached, 1).outlook_behind();
         }
         let reached = self.view().reached(from, coming, self.pressed);
-        let parcels = self.view().parcels(coming, reached);
-        let outlook = self.crowds(alloc, reached).outlook(parcels);
+        let batch = least_batch(self.ends.as_slice(), reached);
+        let parcels = self.view().parcels(coming, reached, batch);
+        let outlook = self.crowds(alloc, reached, parcels).outlook();
         self.wanted |= outlook.wanted();
         outlook
     }
@@ -399,31 +435,26 @@ impl<B: Naming> Tables<B> {
         }
     }
 
-    // How crowded the rings of these links would be with one parcel more for each. No link counts where memory has run out.
-    fn crowds(&mut self, alloc: Global, links: u128) -> Crowds
+    // How much room the rings of these links have for so many parcels each. No link counts where memory has run out.
+    fn crowds(&mut self, alloc: Global, links: u128, parcels: u64) -> Crowds
         ensures { entries self.new ≡ entries self.old }
     {
         if links == 0 || self.is_spent {
-            return Crowds::none();
+            return Crowds::none(parcels);
         }
         let Ok(sent) = parcel_each(alloc, links) else {
-            return Crowds::none();
+            return Crowds::none(parcels);
         };
-        let result = self.probe(alloc, links, sent.as_slice());
+        let result = self.probe(alloc, sent.as_slice());
         drop(sent);
         match result {
-            Ok(found) => found,
-            Err(AllocError) => Crowds::none(),
+            Ok(()) => crowds_of(self.ends.as_slice(), links, parcels),
+            Err(AllocError) => Crowds::none(parcels),
         }
     }
 
-    // The rings of these links are asked as for an event that sends this, a parcel for each, and of which nothing is entered.
-    fn probe(
-        &mut self,
-        alloc: Global,
-        links: u128,
-        sent: &[(LinkNo, Msg)],
-    ) -> Result<Crowds, AllocError>
+    // Rings are asked as for an event that sends this, of which nothing is entered.
+    fn probe(&mut self, alloc: Global, sent: &[(LinkNo, Msg)]) -> Result<(), AllocError>
         requires spent { self.old.is_spent ≡ false }
         requires written { All (λ x. IsWritable x.1) sent.now }
         ensures kept { list_of self.new.kept ≡ list_of self.old.kept }
@@ -433,12 +464,11 @@ impl<B: Naming> Tables<B> {
         let ends = self.ends.as_mut_slice();
         let event = Event::Down { link: LinkNo(0) }; // whichever: it isn't entered
         let entry = prepare(alloc, ends, sent, event, None, None)?;
-        let crowds = crowds_of(ends, links, entry.closed.as_slice());
         let pressed = pressed_by(ends, sent, self.pressed);
         drop(entry);
         self.pressed = pressed;
-        self.is_spent = false;
-        Ok(crowds)
+        self.is_spent = false; // nothing was entered
+        Ok(())
     }
 
     /// An event has waited, and comes now: others that wait will ask for their rings anew.
@@ -596,10 +626,10 @@ impl<B: Naming> Tables<B> {
     {
         let due = Due {
             links: self.due,
-            rest_ms: self.rest_ms,
+            rest: self.rest,
         };
         self.due = 0;
-        self.rest_ms = 0;
+        self.rest = Rest::none();
         self.presses = false;
         due
     }
@@ -643,7 +673,7 @@ impl<B: Naming> Tables<B> {
         self.used_before
     }
 
-    // The end of a link that has come up is the last one.
+    // The end of a link that has come up is the last one, and who reads from it has never rested.
     fn add_end(
         &mut self,
         alloc: Global,
@@ -656,6 +686,9 @@ impl<B: Naming> Tables<B> {
         ensures ends { IfOk result (λ taker. self.new.ends.items ≡ self.old.ends.items ++ new_end (new_queue link role outbox) (taker_ring taker) ∷ []) }
         ensures taker { IfOk result (λ taker. (taken taker ≡ []) × (take_calls taker ≡ 0)) }
     {
+        if let Some(rested) = self.rested.get_mut(link.0 as usize) {
+            *rested = Rested::never(); // not what the number's last link has rested
+        }
         let (end, taker) = LinkSender::new(alloc, link, role, outbox)?;
         match self.ends.push(end) {
             Ok(()) => Ok(taker),
@@ -738,7 +771,7 @@ impl<B: Naming> Tables<B> {
             is_former,
         } = arrival;
         let entry = prepare(alloc, ends, sent, event, outbox, reason)?;
-        let rest_ms = rest_for(ends);
+        let rest = rest_for(ends);
         let presses = ends.iter().any(|end| end.is_half_full());
         let pressed = pressed_by(ends, sent, kept_at(&entry.event, self.pressed));
         enter(history, &mut self.kept, pass, self.me, ends, &entry);
@@ -747,7 +780,7 @@ impl<B: Naming> Tables<B> {
         self.used_before = self.used_before || is_former;
         self.is_spent = false;
         self.due |= due_of(sent);
-        self.rest_ms = rest_ms;
+        self.rest = rest;
         self.presses = presses;
         self.pressed = pressed;
         Ok(())

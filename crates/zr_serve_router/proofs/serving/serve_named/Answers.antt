@@ -2,7 +2,7 @@ use denote.Exit.{no}
 use denote.Param.{param, copied}
 use denote.Param.Send.{IsSend, IsSync, arg_send, arg_sync, param_send, param_sync, sendable}
 use Rattle.zr_serve.proofs.Served.{not_begun}
-use Rattle.zr_serve_router.proofs.Crossing.{router_send, router_sync}
+use Rattle.zr_router.proofs.Crossing.{router_send, router_sync}
 use Rattle.zr_serve_router.proofs.Named.{under_name}
 use Rattle.zr_serve_router.proofs.serving.serve_named.Goals as goal
 

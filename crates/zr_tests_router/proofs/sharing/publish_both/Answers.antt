@@ -14,7 +14,7 @@ use Rattle.std.proofs.alloc.Global.TheSendSync.{the_sync as heap_sync}
 use Rattle.std.specs.contracts.alloc.Global.{the_row as heap}
 use Rattle.zr_port.specs.declared.naming.Naming.{Ghosts}
 use Rattle.zr_router.specs.contracts.router.Router.{the_row as router}
-use Rattle.zr_serve_router.proofs.Crossing.{router_sync}
+use Rattle.zr_router.proofs.Crossing.{router_sync}
 use Rattle.zr_tests_router.proofs.desk.Hand.TheSendSync.{the_send as hand_send}
 use Rattle.zr_tests_router.specs.contracts.desk.Hand.{the_row as hand}
 use Rattle.zr_tests_router.proofs.sharing.publish_both.Goals as goal

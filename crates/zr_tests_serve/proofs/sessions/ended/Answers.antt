@@ -1,6 +1,6 @@
 use denote.Exit.{no}
 use denote.Param.Send.{arg_send, arg_sync, param_send, param_sync}
-use Rattle.zr_serve_router.proofs.Crossing.{router_send, router_sync}
+use Rattle.zr_router.proofs.Crossing.{router_send, router_sync}
 use Rattle.zr_tests_serve.proofs.sessions.ended.Goals as goal
 
 pub run-end-requires-send-P : goal.run-end-requires-send-P

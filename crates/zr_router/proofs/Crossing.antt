@@ -45,10 +45,13 @@ tables_send B g b =
                             (
                               search (sendable),
                               (
-                                search (sendable),
+                                search (crosses, sendable) depth 60 fits 20000,
                                 (
                                   search (sendable),
-                                  tt,
+                                  (
+                                    search (sendable),
+                                    tt,
+                                  ),
                                 ),
                               ),
                             ),
