@@ -2,7 +2,7 @@
 
 ghost use Rattle.std.specs.Prelude.{◌≡◌, not, filter, IfOk};
 ghost use Rattle.std.specs.List.{list_all};
-ghost use Rattle.zr_pend_spec.specs.Row.{is_branch, has, is_done, is_last, is_of, is_asked_by, without, orphaned};
+ghost use Rattle.zr_pend_spec.specs.Row.{is_branch, has, is_done, is_last, is_of, without, orphaned};
 
 use std::alloc::{AllocError, Global};
 use std::marker::Model;
@@ -66,16 +66,6 @@ impl Row {
     {
         match &self.asker {
             Some(asker) => asker.link.0 == link.0,
-            None => false,
-        }
-    }
-
-    /// Whether the request came from this asker, under this number.
-    pub fn is_asked_by(&self, from: Asker) -> bool
-        ensures { result ≡ is_asked_by from self.now }
-    {
-        match &self.asker {
-            Some(asker) => asker.link.0 == from.link.0 && asker.number == from.number,
             None => false,
         }
     }
