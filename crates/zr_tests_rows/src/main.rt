@@ -1,6 +1,6 @@
-//! Rows of what names a network (key expressions and how they compare, links, trees, change logs, pending requests), of the wire's formats (bytes,
-//! extensions, bodies, keys, transport messages, declarations, network messages, messages between routers), of opening, frames and whole sessions, and of
-//! access rules.
+//! Rows of what names a network (key expressions, how they compare and an index of them, links, trees, change logs, pending requests), of the
+//! wire's formats (bytes, extensions, bodies, keys, transport messages, declarations, network messages, messages between routers), of opening, frames
+//! and whole sessions, and of access rules.
 //!
 //! A row of standard input names a call and what it takes, word by word; it is written to standard output with what came of it behind `=`. Empty
 //! lines and those that begin with `#` are written as they are. What is to come stands in the file `stdout` beside this folder, as the
@@ -14,6 +14,7 @@ mod equalities;
 mod expressions;
 mod fragments;
 mod graphs;
+mod indexes;
 mod keys;
 mod logs;
 mod matches;
@@ -63,6 +64,7 @@ fn answer(alloc: Global, name: &str, words: &[&str]) -> Result<String, Fault> {
         "body" => bodies::answer(alloc, words),
         "expression" => expressions::answer(alloc, words),
         "match" => matches::answer(alloc, words),
+        "index" => indexes::answer(alloc, words),
         "rules" => rules::answer(alloc, words),
         "key" => keys::answer(alloc, words),
         "transport" => transport::answer(alloc, words),
