@@ -10,9 +10,9 @@ import signal
 import socket
 import time
 
-from driven import PROBE_LEASE, Reader, Router, Session, Wrong, pubsub, send_at_once
+from driven import PROBE_LEASE, Router, Session, Wrong, pubsub, send_at_once
 from ordering import History
-from reading import Stream, message
+from reading import Numbering, Stream, message
 
 MOST_WAIT = 120  # seconds for what has to come, on a busy machine too
 QUIET, QUIET_BEFORE = 0.5, 0.1  # seconds in which nothing comes, once links have come up or gone down and before they go down
@@ -97,7 +97,7 @@ class Client:
     def say(self, *messages):
         """Sends messages in one write."""
         for content in messages:
-            said = self.network.history.add(self.name, self.home, message(Reader(content)))
+            said = self.network.history.add(self.name, self.home, message(Numbering(content, {})))
             said.sent = self.network.history.now()
         send_at_once(self.session, messages)
         self.unread += len(messages)

@@ -5,6 +5,8 @@
 from driven import DECLARATIONS, RECORD, WEIGHTED_RECORD, Ended, Reader, Wrong, pubsub
 
 TREE = 0x47  # the extension that names the tree, between routers
+KEY = 0x00  # the declaration of a number for a text
+MAPPED = 0x40  # of what has a key: its number is one that the sender gave
 NO_TEXT = "-"
 TARGETS = ["best", "all", "complete"]
 KINDS = ["sub", "able", "full"]
@@ -15,9 +17,30 @@ INTERESTED = {pubsub.SUBSCRIBERS: "sub", pubsub.QUERYABLES: "able", pubsub.SUBSC
 
 
 def key(reader, header):
-    if reader.number():
-        raise Wrong("a key is told by its number, which this test doesn't read")
-    return reader.string().decode() if header & pubsub.NAMED else ""
+    number = reader.number()
+    if number and not (header & MAPPED and number in reader.names):
+        raise Wrong(f"a key is told by the number {number}, which stands for nothing")
+    return (reader.names[number] if number else "") + (reader.string().decode() if header & pubsub.NAMED else "")
+
+
+class Numbering(Reader):
+    """Reads messages of one direction of a link, whose sender has given these numbers to texts."""
+
+    def __init__(self, content, names):
+        super().__init__(content)
+        self.names = names
+
+
+def numbered(reader, declared):
+    """A number is declared: no message of its own."""
+    number = reader.number()
+    if number in reader.names:
+        raise Wrong(f"the number {number} is declared twice")
+    text = key(reader, declared | MAPPED)
+    reader.extensions(declared)
+    if text in reader.names.values():
+        raise Wrong(f"{text} is declared twice")
+    reader.names[number] = text
 
 
 def tree(found):
@@ -83,6 +106,8 @@ def declaration(reader, header, to_client):
     reader.extensions(header)
     declared = reader.byte()
     kind = declared & pubsub.KIND
+    if kind == KEY and not to_client:
+        return numbered(reader, declared)
     told = ("told",) if to_client else ()
     if kind == pubsub.ALL_TOLD:
         reader.extensions(declared)
@@ -154,7 +179,7 @@ READ = {
 
 
 def message(reader, to_client=False):
-    """The words of the next message."""
+    """The words of the next message, or None where it is a declaration of a number."""
     header = reader.byte()
     return READ[header & pubsub.KIND](reader, header, to_client)
 
@@ -164,7 +189,7 @@ class Stream:
 
     def __init__(self, name, to_client=False):
         self.name, self.to_client, self.may_close = name, to_client, False
-        self.waiting, self.pieces = b"", b""
+        self.waiting, self.pieces, self.names = b"", b"", {}
 
     def feed(self, content):
         """The batches that have come whole: the bytes of each, and the messages that end in it."""
@@ -175,7 +200,7 @@ class Stream:
             if len(waiting) < end:
                 break
             try:
-                found.append((waiting[at:end], list(self.batch(Reader(waiting[at + 2 : end])))))
+                found.append((waiting[at:end], list(self.batch(Numbering(waiting[at + 2 : end], self.names)))))
             except (Ended, LookupError, UnicodeDecodeError) as e:
                 raise Wrong(f"{self.name}: {waiting[at:end].hex()} can't be read: {e!r}") from e
             at = end
@@ -201,10 +226,12 @@ class Stream:
                 self.pieces += reader.rest()
                 if not header & pubsub.MORE:
                     whole, self.pieces = self.pieces, b""
-                    yield from self.frame(Reader(whole))
+                    yield from self.frame(Numbering(whole, self.names))
             elif kind != pubsub.KEEP_ALIVE:
                 raise Wrong(f"{self.name}: {header:#04x} was sent in the session")
 
     def frame(self, reader):
         while not reader.is_empty() and reader.content[reader.at] & pubsub.KIND >= pubsub.INTEREST:
-            yield message(reader, self.to_client)
+            words = message(reader, self.to_client)
+            if words is not None:
+                yield words

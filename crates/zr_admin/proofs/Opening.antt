@@ -12,7 +12,7 @@ use Rattle.zr_port.specs.declared.error.DeliverError.{DeliverError}
 use Rattle.zr_port.specs.declared.error.DownError.{DownError}
 use Rattle.zr_port.specs.declared.error.UpError.{UpError}
 use Rattle.zr_port.specs.Adding.{Adds, IsAdmitted, IsEntryOf}
-use Rattle.zr_port.specs.Coming.{Delivered, Through, sight}
+use Rattle.zr_port.specs.Coming.{Answering, Delivered, Through, sight}
 use Rattle.zr_glance.specs.Pages.{space}
 use Rattle.zr_admin.specs.Inner.{IsOpened, IsUndeclared, IsUnopened, inner_outbox, inner_peer}
 use Rattle.zr_admin.specs.declared.error.AdminError.TheVariants as error
@@ -36,13 +36,13 @@ module _ (refuses_up : List Entry → PeerState → UpError → Type 0) (id key 
         able = subst (λ k. Through link refuses_message (Delivered (Able 1 k false) ∷ []) (sight mid) (sight new)) is_key able;
       }
 
-  pub unopened : (refuses_message : List Entry → LinkNo → Msg → DeliverError → Type 0) (refuses_down : List Entry → LinkNo → DownError → Type 0) (e : DeliverError) (old mid new : Pass Entry)
+  pub unopened : (refuses_message : List Entry → LinkNo → Msg → DeliverError → Type 0) (refuses_down : List Entry → LinkNo → DownError → Type 0) (called : Answering) (e : DeliverError) (old mid new : Pass Entry)
       → peer ≡ inner_peer word → outbox ≡ inner_outbox → key ≡ space id ++ codes "**" → Came peer outbox old mid
-      → IsUndeclared refuses_message refuses_down link (Able 1 key false) e (sight mid) (sight new) → IsUnopened refuses_up refuses_message refuses_down id word (error.Deliver e) (sight old) (sight new)
-  unopened refuses_message refuses_down e old mid new is_peer is_outbox is_key h undeclared =
+      → IsUndeclared refuses_message refuses_down called link (Able 1 key false) e (sight mid) (sight new) → IsUnopened refuses_up refuses_message refuses_down called id word (error.Deliver e) (sight old) (sight new)
+  unopened refuses_message refuses_down called e old mid new is_peer is_outbox is_key h undeclared =
       let a = as_inner old mid is_peer is_outbox h in (
         link,
         sight mid,
         record { before = a.before; entry = a.entry; own = a.own; last = a.last; prefix = a.prefix; is = a.says.0 },
-        subst (λ k. IsUndeclared refuses_message refuses_down link (Able 1 k false) e (sight mid) (sight new)) is_key undeclared,
+        subst (λ k. IsUndeclared refuses_message refuses_down called link (Able 1 k false) e (sight mid) (sight new)) is_key undeclared,
       )

@@ -13,7 +13,7 @@ use Rattle.zr_port.specs.declared.error.DeliverError.{DeliverError}
 use Rattle.zr_port.specs.declared.error.DownError.{DownError}
 use Rattle.zr_port.specs.declared.error.DownError.TheVariants as down
 use Rattle.zr_port.specs.Adding.{Adds, IsAdmitted, IsEntryOf}
-use Rattle.zr_port.specs.Coming.{Sight, sight, Looks, Delivered, Makes, Through}
+use Rattle.zr_port.specs.Coming.{Answering, Sight, sight, Looks, Delivered, Makes, Through}
 use Rattle.zr_port.proofs.Coming.{adds_one, looks_self, through_then}
 use Rattle.zr_admin.specs.Inner.{DeliversUpTo, Leaves}
 
@@ -24,11 +24,11 @@ makes_one link refuses m old new h =
     (record { before = h.before; entry = h.entry; own = h.own; last = h.last; prefix = h.prefix; is = h.says.0 }, h.says.1)
 
 -- or of a link that is to go down
-pub left : (r : Result (Unit {0}) DownError) (link : LinkNo) (admits : List Entry → Type 0) (refuses : List Entry → LinkNo → DownError → Type 0) (old new : Pass Entry)
-    → IfOk r (λ _. Adds old new (λ before e. IsEntryOf (Down link) None None e × admits before)) → IfErr r (λ e. e ≢ down.NoMemory → refuses (seen new) link e)
-    → OnErr r (mine new ≡ mine old) → IsPrefix (seen old) (seen new) → Leaves refuses link (sight old) (sight new)
-left (Ok u) link admits refuses old new added refused same prefix = inl (adds_one old new (Down link) None None _ added (λ before e says. says.0))
-left (Err e) link admits refuses old new added refused same prefix = inr (e, (same, prefix), refused)
+pub left : (r : Result (Unit {0}) DownError) (link : LinkNo) (admits : List Entry → Type 0) (refuses : List Entry → LinkNo → DownError → Type 0) (called : Answering) (old new : Pass Entry)
+    → called link None (sight old) (sight new) r → IfOk r (λ _. Adds old new (λ before e. IsEntryOf (Down link) None None e × admits before))
+    → IfErr r (λ e. e ≢ down.NoMemory → refuses (seen new) link e) → OnErr r (mine new ≡ mine old) → IsPrefix (seen old) (seen new) → Leaves refuses called link (sight old) (sight new)
+left (Ok u) link admits refuses called old new answered added refused same prefix = (Ok u, answered, adds_one old new (Down link) None None _ added (λ before e says. says.0))
+left (Err e) link admits refuses called old new answered added refused same prefix = (Err e, answered, ((same, prefix), refused))
 
 module _ (link : LinkNo) (refuses : List Entry → Msg → DeliverError → Type 0) where
   pub none_delivered : (messages : List Msg) (a : Sight) → DeliversUpTo link refuses messages messages a a

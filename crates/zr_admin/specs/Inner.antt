@@ -10,7 +10,7 @@ use Rattle.zr_msg.specs.declared.msg.Msg.{Msg}
 use Rattle.zr_msg.specs.declared.msg.Msg.TheVariants.{Able}
 use Rattle.zr_msg.specs.declared.peer.Role.TheVariants.{Client}
 use Rattle.zr_port.specs.Adding.{IsAdmitted}
-use Rattle.zr_port.specs.Coming.{Sight, AddsOne, Looks, Delivered, Through}
+use Rattle.zr_port.specs.Coming.{Answering, Sight, AddsOne, Looks, Delivered, Through}
 use Rattle.zr_port.specs.declared.entry.Entry.{Entry}
 use Rattle.zr_port.specs.declared.error.DeliverError.{DeliverError}
 use Rattle.zr_port.specs.declared.error.DeliverError.TheVariants as deliver
@@ -46,28 +46,34 @@ inner_peer word = record { id = inner_id word; role = Client; weight = 1 }
 
 -- its parcels are as long as a ring takes them, and its frame numbers have 32 bits and begin with 0
 abbrev pub inner_outbox : OutboxState
-inner_outbox = record { batch = 65535; bits = 2; next = 0 }
+inner_outbox = record { batch = 65535; bits = 2; next = 0; names = None }
 
 -- what it declares: it answers requests on all keys of its router's space, and isn't complete
 abbrev pub queryable : List ℕ → Msg
 queryable id = Able 1 (space id ++ codes "**") false
 
--- Its link went down, or that was refused
-abbrev pub Leaves : (List Entry → LinkNo → DownError → Type 0) → LinkNo → Sight → Sight → Type 0
-Leaves refuses link old new = AddsOne (Down link) None None old new ⊎ ((e : DownError) × Looks old new × (e ≢ down.NoMemory → refuses new.seen link e))
+-- What `down` answers: its link went down, or that is refused
+abbrev pub IsLeft : (List Entry → LinkNo → DownError → Type 0) → LinkNo → Sight → Sight → Result (Unit {0}) DownError → Type 0
+IsLeft refuses link old new (Ok _) = AddsOne (Down link) None None old new
+IsLeft refuses link old new (Err e) = Looks old new × (e ≢ down.NoMemory → refuses new.seen link e)
+
+-- `down` was called once, without a reason
+abbrev pub Leaves : (List Entry → LinkNo → DownError → Type 0) → Answering → LinkNo → Sight → Sight → Type 0
+Leaves refuses called link old new = (answer : Result (Unit {0}) DownError) × called link None old new answer × IsLeft refuses link old new answer
 
 -- ---- opening
 
 -- what it declares was refused, and so its link went down, unless that was refused too
-abbrev pub IsUndeclared : (List Entry → LinkNo → Msg → DeliverError → Type 0) → (List Entry → LinkNo → DownError → Type 0) → LinkNo → Msg → DeliverError → Sight → Sight → Type 0
-IsUndeclared refuses_message refuses_down link msg e old new = (mid : Sight) × Looks old mid × (e ≢ deliver.NoMemory → refuses_message mid.seen link msg e) × Leaves refuses_down link mid new
+abbrev pub IsUndeclared : (List Entry → LinkNo → Msg → DeliverError → Type 0) → (List Entry → LinkNo → DownError → Type 0) → Answering → LinkNo → Msg → DeliverError → Sight → Sight → Type 0
+IsUndeclared refuses_message refuses_down called link msg e old new =
+    (mid : Sight) × Looks old mid × (e ≢ deliver.NoMemory → refuses_message mid.seen link msg e) × Leaves refuses_down called link mid new
 
 -- why it was not opened, and what was added: no link came up, or one did and what it declares was refused
-abbrev pub IsUnopened : (List Entry → PeerState → UpError → Type 0) → (List Entry → LinkNo → Msg → DeliverError → Type 0) → (List Entry → LinkNo → DownError → Type 0) → List ℕ → ℕ → AdminError → Sight → Sight → Type 0
-IsUnopened refuses_up refuses_message refuses_down id word (error.Up e) old new = Looks old new × (e ≢ up.NoMemory → refuses_up new.seen (inner_peer word) e)
-IsUnopened refuses_up refuses_message refuses_down id word (error.Deliver e) old new =
-    (link : LinkNo) × (came : Sight) × AddsOne (Up link (inner_peer word)) (Some inner_outbox) None old came × IsUndeclared refuses_message refuses_down link (queryable id) e came new
-IsUnopened refuses_up refuses_message refuses_down id word error.NoMemory old new = Looks old new
+abbrev pub IsUnopened : (List Entry → PeerState → UpError → Type 0) → (List Entry → LinkNo → Msg → DeliverError → Type 0) → (List Entry → LinkNo → DownError → Type 0) → Answering → List ℕ → ℕ → AdminError → Sight → Sight → Type 0
+IsUnopened refuses_up refuses_message refuses_down called id word (error.Up e) old new = Looks old new × (e ≢ up.NoMemory → refuses_up new.seen (inner_peer word) e)
+IsUnopened refuses_up refuses_message refuses_down called id word (error.Deliver e) old new =
+    (link : LinkNo) × (came : Sight) × AddsOne (Up link (inner_peer word)) (Some inner_outbox) None old came × IsUndeclared refuses_message refuses_down called link (queryable id) e came new
+IsUnopened refuses_up refuses_message refuses_down called id word error.NoMemory old new = Looks old new
 
 -- a link came up that no one had, and what it declares was delivered
 pub record IsOpened (refuses_up : List Entry → PeerState → UpError → Type 0) (refuses_message : List Entry → Msg → DeliverError → Type 0) (id : List ℕ) (word : ℕ) (link : LinkNo) (old new : Sight) : Type 0 where

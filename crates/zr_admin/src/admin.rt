@@ -66,7 +66,7 @@ impl<P: Glancing + Drop> Admin<P> {
         ensures opened { IfOk result (λ a. IsOpened (λ h p e. P.refuses_up (arc_value port) h p e) (λ h m e. P.refuses_message (arc_value port) h a.link m e) id word a.link (sight pass) (sight a.pass)) }
         ensures fresh { IfOk result (λ a. (taken a.taker ≡ []) × (take_calls a.taker ≡ 0) × (a.hearing ≡ []) × (a.id ≡ id) × (arc_value a.port ≡ arc_value port)) }
         ensures same { IfOk result (λ a. IsSamePass pass a.pass) }
-        ensures unopened { IfErr result (λ e. IsUnopened (λ h p x. P.refuses_up (arc_value port) h p x) (λ h l m x. P.refuses_message (arc_value port) h l m x) (λ h l x. P.refuses_down (arc_value port) h l x) id word e.0 (sight pass) (sight e.1)) }
+        ensures unopened { IfErr result (λ e. IsUnopened (λ h p x. P.refuses_up (arc_value port) h p x) (λ h l m x. P.refuses_message (arc_value port) h l m x) (λ h l x. P.refuses_down (arc_value port) h l x) (P.answers_down (arc_value port)) id word e.0 (sight pass) (sight e.1)) }
         ensures back { IfErr result (λ e. IsSamePass pass e.1) }
     {
         let mut pass = pass;
@@ -126,7 +126,7 @@ impl<P: Glancing + Drop> Admin<P> {
     /// Its link goes down, unless it did already. What was declared on it goes with it, and each request that it has not answered gets its final.
     pub fn leave(&mut self)
         ensures same { IsSamePass self.old.pass self.new.pass }
-        ensures left { Leaves (λ h l e. P.refuses_down (arc_value self.old.port) h l e) self.old.link (sight self.old.pass) (sight self.new.pass) }
+        ensures left { Leaves (λ h l e. P.refuses_down (arc_value self.old.port) h l e) (P.answers_down (arc_value self.old.port)) self.old.link (sight self.old.pass) (sight self.new.pass) }
     {
         leave(&*self.port, &mut self.pass, self.link);
     }
@@ -144,7 +144,7 @@ fn enter<P: Port>(
     ensures same { IsSamePass pass.old pass.new }
     ensures opened { IfOk result (λ r. IsOpened (λ h p e. P.refuses_up port.now h p e) (λ h m e. P.refuses_message port.now h r.0 m e) id.now word r.0 (sight pass.old) (sight pass.new)) }
     ensures fresh { IfOk result (λ r. (taken r.1 ≡ []) × (take_calls r.1 ≡ 0)) }
-    ensures unopened { IfErr result (λ e. IsUnopened (λ h p x. P.refuses_up port.now h p x) (λ h l m x. P.refuses_message port.now h l m x) (λ h l x. P.refuses_down port.now h l x) id.now word e (sight pass.old) (sight pass.new)) }
+    ensures unopened { IfErr result (λ e. IsUnopened (λ h p x. P.refuses_up port.now h p x) (λ h l m x. P.refuses_message port.now h l m x) (λ h l x. P.refuses_down port.now h l x) (P.answers_down port.now) id.now word e (sight pass.old) (sight pass.new)) }
 {
     // what may fail comes first, so that no link is left behind
     let Ok(key) = space_key(alloc, id) else {
@@ -176,7 +176,7 @@ fn declare<P: Port>(
     requires pass { pass_name pass.old ≡ P.history port.now }
     ensures same { IsSamePass pass.old pass.new }
     ensures declared { OnOk result (Through link (λ h m e. P.refuses_message port.now h link m e) (Delivered (Able 1 key false) ∷ []) (sight pass.old) (sight pass.new)) }
-    ensures refused { IfErr result (λ e. IsUndeclared (λ h l m x. P.refuses_message port.now h l m x) (λ h l x. P.refuses_down port.now h l x) link (Able 1 key false) e (sight pass.old) (sight pass.new)) }
+    ensures refused { IfErr result (λ e. IsUndeclared (λ h l m x. P.refuses_message port.now h l m x) (λ h l x. P.refuses_down port.now h l x) (P.answers_down port.now) link (Able 1 key false) e (sight pass.old) (sight pass.new)) }
 {
     let able = Msg::Able {
         id: ABLE,
@@ -196,7 +196,7 @@ fn declare<P: Port>(
 fn leave<P: Port>(port: &P, pass: &mut Pass<Entry>, link: LinkNo)
     requires { pass_name pass.old ≡ P.history port.now }
     ensures same { IsSamePass pass.old pass.new }
-    ensures left { Leaves (λ h l e. P.refuses_down port.now h l e) link (sight pass.old) (sight pass.new) }
+    ensures left { Leaves (λ h l e. P.refuses_down port.now h l e) (P.answers_down port.now) link (sight pass.old) (sight pass.new) }
 {
     // a link that another caller took down is gone as well, and where memory ran out nothing can be done
     let _ = port.down(pass, link, None);

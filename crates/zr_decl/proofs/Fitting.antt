@@ -1,9 +1,8 @@
 -- Each message that has a spelling can be written: what the parts of a spelling tell of what was read.
-use Rattle.std.proofs.Common.{◌≡◌, ℕ, ◌<◌, ◌%◌, ◌^◌, Bool, true, false, ◌||◌, List, ◌++◌, Option, Some, None, Result, Ok, Err, refl, sym, ap, subst, arith}
+use Rattle.std.proofs.Common.{◌≡◌, ℕ, ◌<◌, ◌%◌, ◌^◌, Bool, true, false, ◌||◌, List, ◌++◌, Option, Result, Ok, Err, refl, sym, ap, subst, arith}
 use Rattle.zr_bytes.specs.Flag.{has_id, has_flag}
-use Rattle.zr_bytes.specs.Reading.{◌>>=◌}
 use Rattle.zr_bytes.proofs.Steps.{ok_is, bind_ok}
-use Rattle.zr_format_spec.specs.Format.{Format, gives, choose, unknown, optional, below}
+use Rattle.zr_format_spec.specs.Format.{gives, choose, unknown, optional, below}
 use Rattle.zr_format_spec.specs.Laws.{HasSpelling}
 use Rattle.zr_format_spec.proofs.Spelled.{spelled_allows, chosen_holds}
 use Rattle.zr_key.specs.declared.key.KeyError.{KeyError}

@@ -1,3 +1,4 @@
 pub mod Messages
 pub mod Written
+pub mod Names
 pub mod Fitting

@@ -157,6 +157,10 @@ abbrev pub IsSomeKey : Option (List ℕ) → Type 0
 IsSomeKey None = Unit {0}
 IsSomeKey (Some key) = IsKey key
 
+-- a number that may stand for a text, and a text that may have one
+abbrev pub IsName : ℕ × List ℕ → Type 0
+IsName name = (0 < name.0) × (name.0 < 2 ^ 16) × (length name.1 ≤ 2048)
+
 -- a DECLARE, in either direction
 abbrev pub IsDeclaration : Msg → Type 0
 IsDeclaration (Sub _ _) = Unit {0}

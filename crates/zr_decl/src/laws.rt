@@ -1,6 +1,6 @@
 //! The laws of declarations and interests, over their definitions alone.
 
-ghost use Rattle.zr_decl.specs.Laws.{DeclarationsAreRead, DeclarationsHaveOneReading, WrittenDeclarationsAreRead, InterestsAreRead, InterestsHaveOneReading, WrittenInterestsAreRead, SpelledDeclarationsAreWritten, SpelledInterestsAreWritten};
+ghost use Rattle.zr_decl.specs.Laws.{DeclarationsAreRead, DeclarationsHaveOneReading, WrittenDeclarationsAreRead, WrittenNamesAreRead, InterestsAreRead, InterestsHaveOneReading, WrittenInterestsAreRead, SpelledDeclarationsAreWritten, SpelledInterestsAreWritten};
 
 /// A declaration is read exactly where the bytes begin with one, and refused exactly for its first fault.
 pub fn declarations_are_read()
@@ -15,6 +15,11 @@ pub fn declarations_have_one_reading()
 /// What is written is read again; what a router tells is read as the declaration that it tells.
 pub fn written_declarations_are_read()
     ensures { WrittenDeclarationsAreRead }
+{}
+
+/// What declares a number is read again.
+pub fn written_names_are_read()
+    ensures { WrittenNamesAreRead }
 {}
 
 /// An interest is read exactly where the bytes begin with one, and refused exactly for its first fault.

@@ -1,5 +1,5 @@
 -- One message more: what packs it does what the packing of all says.
-use Rattle.std.proofs.Common.{◌≡◌, ◌∙◌, ap, refl, sym, subst, ℕ, ◌<◌, ◌≤◌, Bool, true, false, cond, List, [], ◌∷◌, ◌++◌, length, append_assoc, Option, Some, None, Result, Ok, Err, OnOk}
+use Rattle.std.proofs.Common.{◌≡◌, ◌∙◌, ap, refl, subst, ℕ, Bool, true, false, cond, List, ◌∷◌, ◌++◌, length, append_assoc, Option, Some, None, Result, Ok, Err, OnOk}
 use Rattle.zr_frame.specs.Outbox.{OutboxState}
 use Rattle.zr_frame.specs.Packing.{Parcels, before, fits, with_message, closed, fragments, packed}
 use Rattle.zr_frame.specs.Packer.{PackerState, behind, on_the_way, Joins}

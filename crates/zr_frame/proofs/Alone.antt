@@ -1,5 +1,5 @@
 -- One message in a frame of its own.
-use Rattle.std.proofs.Common.{◌≡◌, ◌∙◌, ap, sym, subst, ℕ, ◌+◌, ◌≤◌, true, List, [], ◌∷◌, ◌++◌, length, length-append, None, nat_le}
+use Rattle.std.proofs.Common.{◌≡◌, ◌∙◌, ap, sym, ℕ, ◌+◌, true, List, [], ◌∷◌, ◌++◌, length, length-append, None, nat_le}
 use Rattle.zr_trans.specs.Writing.{writes_trans}
 use Rattle.zr_trans.specs.declared.trans.Trans.TheVariants.{Frame}
 use Rattle.zr_frame.specs.Outbox.{OutboxState}

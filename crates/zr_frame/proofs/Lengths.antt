@@ -1,11 +1,11 @@
 -- Each packed batch is short enough, and what stands behind them is an outbox.
-use Rattle.std.proofs.Common.{◌≡◌, ◌∙◌, ap, refl, sym, ℕ, zero, suc, ◌+◌, ◌-◌, ◌%◌, ◌^◌, ◌<◌, ◌≤◌, Bool, true, false, cond, List, [], ◌∷◌, ◌++◌, length, take, drop, length-append, append-nil, mod-lt, Option, Some, None, nat_le, arith}
+use Rattle.std.proofs.Common.{◌≡◌, ◌∙◌, refl, ℕ, zero, suc, ◌+◌, ◌-◌, ◌<◌, ◌≤◌, Bool, true, false, cond, List, [], ◌∷◌, ◌++◌, length, take, drop, length-append, mod-lt, Option, Some, None, nat_le, arith}
 use Rattle.std.proofs.lemmas.Bool.Decides.{nat_tests}
 use Rattle.std.proofs.lemmas.List.{length-take-le, length-drop}
 use Rattle.std.specs.List.{AllByRecursion}
 use Rattle.zr_bytes.specs.Number.{writes}
 use Rattle.zr_trans.specs.Writing.{writes_trans}
-use Rattle.zr_trans.specs.declared.trans.Trans.TheVariants.{Frame, Fragment}
+use Rattle.zr_trans.specs.declared.trans.Trans.TheVariants.{Fragment}
 use Rattle.zr_frame.specs.Turn.{modulus_of}
 use Rattle.zr_frame.specs.Outbox.{OutboxState, IsOutbox, advanced}
 use Rattle.zr_frame.specs.Packing.{Parcels, one_parcel, before, fits, with_message, closed, room, fragments, packed}

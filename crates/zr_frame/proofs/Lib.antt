@@ -4,3 +4,4 @@ pub mod Alone
 pub mod Splitting
 pub mod Lengths
 pub mod Receiving
+pub mod Named

@@ -1,5 +1,5 @@
 -- What is packed is received again. That written transport messages are read again is handed in.
-use Rattle.std.proofs.Common.{◌≡◌, ◌∙◌, ap, refl, sym, subst, ℕ, zero, suc, ◌+◌, ◌-◌, ◌%◌, ◌<◌, ◌≤◌, inl, inr, Bool, true, false, cond, List, [], ◌∷◌, ◌++◌, length, take, drop, take-append-drop, length-append, append-nil, append_assoc, mod-lt, Ok, Option, Some, None, nat_le, nat_lt, arith}
+use Rattle.std.proofs.Common.{◌≡◌, ◌∙◌, ap, refl, sym, subst, ℕ, zero, suc, ◌+◌, ◌-◌, ◌%◌, ◌<◌, ◌≤◌, inl, inr, Bool, true, false, cond, List, [], ◌∷◌, ◌++◌, length, take, drop, take-append-drop, length-append, append-nil, append_assoc, Ok, Option, Some, None, nat_le, nat_lt, arith}
 use Rattle.std.proofs.Math.Nat.{mod_self}
 use Rattle.std.proofs.lemmas.Bool.Decides.{nat_tests}
 use Rattle.std.proofs.lemmas.List.Folds.{concat-append}
@@ -12,7 +12,7 @@ use Rattle.zr_trans.specs.declared.trans.Trans.{Trans}
 use Rattle.zr_trans.specs.declared.trans.Trans.TheVariants.{Frame, Fragment}
 use Rattle.zr_frame.specs.declared.channel.Channel.{Channel}
 use Rattle.zr_frame.specs.Turn.{Turn, modulus_of, accepts}
-use Rattle.zr_frame.specs.Channel.{so_far, in_turn, frame, fragment, behind}
+use Rattle.zr_frame.specs.Channel.{so_far, in_turn, frame, fragment}
 use Rattle.zr_frame.specs.Outbox.{OutboxState, IsOutbox, advanced}
 use Rattle.zr_frame.specs.Packing.{Parcels, one_parcel, before, fits, with_message, closed, room, fragments, packed}
 use Rattle.zr_frame.specs.Laws.{HandsOn, Delivers, expecting}

@@ -2,6 +2,7 @@ pub mod Limits
 pub mod Turn
 pub mod Channel
 pub mod Channels
+pub mod Names
 pub mod Outbox
 pub mod Packing
 pub mod Packer

@@ -1,10 +1,10 @@
 //! What an end of a session sends by: how long a batch may be, and which number its next frame has.
 
-ghost use Rattle.std.specs.Prelude.{◌≡◌, ◌+◌, ◌++◌, ◌<◌, ◌≤◌, ℕ, List, [], ◌∷◌, true, length, nat_le, if◌then◌else◌, map, IfOk, OnOk, OnErr};
+ghost use Rattle.std.specs.Prelude.{◌≡◌, ◌+◌, ◌++◌, ◌<◌, ◌≤◌, ℕ, List, [], ◌∷◌, Some, None, is_some, true, length, nat_le, if◌then◌else◌, map, IfOk, OnOk, OnErr};
 ghost use Rattle.zr_trans.specs.Writing.{writes_trans};
 ghost use Rattle.zr_trans.specs.declared.trans.Trans.TheVariants.{Frame};
 ghost use Rattle.zr_frame.specs.Turn.{modulus_of};
-ghost use Rattle.zr_frame.specs.Outbox.{IsOutbox, advanced};
+ghost use Rattle.zr_frame.specs.Outbox.{IsOutbox, advanced, with_names};
 ghost use Rattle.zr_frame.specs.Packing.{one_parcel, parcels};
 
 use crate::counter::modulus;
@@ -23,31 +23,58 @@ pub struct Outbox {
     batch: u16,
     bits: u8,
     next: u64,
+    // whether this end gives numbers to the texts of keys; as the session opens none has one
+    names: bool,
 }
 
 impl Model for Outbox {
-    ghost use Rattle.std.specs.Prelude.{◌<◌, ◌≤◌};
+    ghost use Rattle.std.specs.Prelude.{◌<◌, ◌≤◌, is_some};
+    ghost use Rattle.zr_frame.specs.Names.{first_names, first_names_tell};
     ghost use Rattle.zr_frame.specs.Turn.{modulus_of};
     ghost use Rattle.zr_frame.specs.Outbox.{OutboxState};
 
     ghost Value = { OutboxState };
 
-    ghost view = { λ o. record { batch = o.batch; bits = o.bits; next = o.next } };
+    ghost view = { λ o. record { batch = o.batch; bits = o.bits; next = o.next; names = first_names o.names } };
 
     ghost invariant = { λ o. (64 ≤ o.batch) × (o.bits < 4) × (o.next < modulus_of o.bits) };
 
-    ghost inverse = { λ o. record { batch = o.batch; bits = o.bits; next = o.next } };
+    ghost inverse = { λ o. record { batch = o.batch; bits = o.bits; next = o.next; names = is_some o.names } };
+
+    ghost inverse_ok = { λ o h i. record { batch = o.batch; bits = o.bits; next = o.next; names = first_names_tell o.names i } };
 }
 
 impl Outbox {
-    /// The most bytes of a batch, the two bits of the resolution of frame numbers, and the number of the first frame.
+    /// The most bytes of a batch, the two bits of the resolution of frame numbers, and the number of the first frame. Keys go as whole text.
     pub fn new(batch: u16, bits: u8, next: u64) -> Outbox
         requires large { 64 ≤ batch }
         requires two_bits { bits < 4 }
         requires in_range { next < modulus_of bits }
-        ensures { result ≡ record { batch = batch; bits = bits; next = next } }
+        ensures { result ≡ record { batch = batch; bits = bits; next = next; names = None } }
     {
-        Outbox { batch, bits, next }
+        Outbox {
+            batch,
+            bits,
+            next,
+            names: false,
+        }
+    }
+
+    /// The same, by which this end gives numbers to the texts of keys. None has one yet.
+    pub fn with_names(self) -> Outbox
+        ensures { result ≡ with_names self (Some []) }
+    {
+        Outbox {
+            names: true,
+            ..self
+        }
+    }
+
+    /// Whether this end gives numbers to the texts of keys.
+    pub fn has_names(&self) -> bool
+        ensures { result ≡ is_some self.now.names }
+    {
+        self.names
     }
 
     /// The most bytes of a batch.

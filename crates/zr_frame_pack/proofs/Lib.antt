@@ -1,1 +1,4 @@
 pub mod Snapshots
+pub mod NamesGiven
+pub mod Outboxes
+pub mod Returning

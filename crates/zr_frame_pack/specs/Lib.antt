@@ -1,2 +1,3 @@
 pub mod Writable
 pub mod Packing
+pub mod Marks

@@ -1,26 +1,50 @@
 //! A message as its bytes.
 
-ghost use Rattle.std.specs.Prelude.{◌≡◌, IfOk};
+ghost use Rattle.std.specs.Prelude.{◌≡◌, ◌<◌, ◌≤◌, IfOk, length};
 ghost use Rattle.zr_frame_pack.specs.Writable.{IsSourced, IsWritable};
-ghost use Rattle.zr_wire.specs.Writing.{writes_message};
+ghost use Rattle.zr_wire.specs.Writing.{writes_message, writes_numbered};
+ghost use Rattle.zr_wirekey.specs.Writing.{writes_name};
 
 use std::alloc::{AllocError, Global};
 use zr_bytes::ByteString;
 use zr_msg::msg::Msg;
-use zr_wire::write_message;
+use zr_wire::write_numbered;
+use zr_wirekey::write_name;
 
 /// Room for most small messages, so that writing one takes memory once.
 const FEW_BYTES: usize = 128;
 
-/// The bytes of a message that may be written.
-#[tactic(auto, using(crate::proofs::Snapshots::writable_spelled))]
+// The key of a message is written as whole text.
+const NO_NUMBER: u16 = 0;
+
+/// The bytes of a message that may be written, with its whole key.
 pub fn message_bytes(alloc: Global, msg: &Msg) -> Result<ByteString, AllocError>
     requires { IsWritable msg.now }
     ensures { IfOk result (λ b. b ≡ writes_message msg.now) }
 {
+    numbered_bytes(alloc, msg, NO_NUMBER)
+}
+
+/// The bytes of a message that may be written, with a number that was declared for its key (0: with the whole key).
+#[tactic(auto, using(crate::proofs::Snapshots::writable_spelled))]
+pub fn numbered_bytes(alloc: Global, msg: &Msg, number: u16) -> Result<ByteString, AllocError>
+    requires { IsWritable msg.now }
+    ensures { IfOk result (λ b. b ≡ writes_numbered msg.now number) }
+{
     is_sourced(msg);
     let mut bytes = Vec::with_capacity(alloc, FEW_BYTES)?;
-    write_message(&mut bytes, msg)?;
+    write_numbered(&mut bytes, msg, number)?;
+    Ok(ByteString::new(bytes))
+}
+
+/// The declaration of a number.
+pub(crate) fn name_bytes(alloc: Global, number: u16, text: &[u8]) -> Result<ByteString, AllocError>
+    requires number { 0 < number }
+    requires text { length text.now ≤ 2048 }
+    ensures { IfOk result (λ b. b ≡ writes_name number text.now) }
+{
+    let mut bytes = Vec::with_capacity(alloc, FEW_BYTES)?;
+    write_name(&mut bytes, number, text)?;
     Ok(ByteString::new(bytes))
 }
 

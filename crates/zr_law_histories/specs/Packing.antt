@@ -1,6 +1,6 @@
 -- What a history queues for a link, as bytes: where nothing is left out and no link is closed, just the messages that the router sends on it, each
 -- packed behind the one before.
-use Rattle.std.specs.Prelude.{◌≡◌, ◌==◌, Bool, true, false, List, [], ◌∷◌, ◌++◌, map, Some, None}
+use Rattle.std.specs.Prelude.{◌≡◌, ◌==◌, Bool, true, false, List, [], ◌∷◌, ◌++◌, Some, None}
 use Rattle.std.specs.List.{AllByRecursion}
 use Rattle.zr_id.specs.declared.link.LinkNo.{LinkNo}
 use Rattle.zr_msg.specs.declared.event.Event.{Event}
@@ -8,8 +8,8 @@ use Rattle.zr_msg.specs.declared.event.Event.TheVariants.{Up, Down, From}
 use Rattle.zr_msg.specs.declared.msg.Msg.{Msg}
 use Rattle.zr_told_spec.specs.Hub.{HubState, hub_after, hub_sends}
 use Rattle.zr_frame.specs.Outbox.{OutboxState}
-use Rattle.zr_frame.specs.Packing.{Parcels, parcels}
-use Rattle.zr_wire.specs.Writing.{writes_message}
+use Rattle.zr_frame.specs.Packing.{Parcels}
+use Rattle.zr_frame_pack.specs.Packing.{parcels_of}
 use Rattle.zr_port.specs.declared.entry.Entry.{Entry}
 use Rattle.zr_router_queue.specs.Tables.{LinkQueue, Tables, with_parcels, replay_from, queue_of}
 
@@ -25,7 +25,7 @@ and_then first more = record { outbox = more.outbox; batches = first.batches ++ 
 -- the parcels of messages, entry by entry
 abbrev pub packed : OutboxState → List (List Msg) → Parcels
 packed outbox [] = record { outbox = outbox; batches = [] }
-packed outbox (msgs ∷ more) = and_then (parcels outbox (map writes_message msgs)) (packed (parcels outbox (map writes_message msgs)).outbox more)
+packed outbox (msgs ∷ more) = and_then (parcels_of outbox msgs) (packed (parcels_of outbox msgs).outbox more)
 
 -- the event brings the link up or down
 abbrev pub touches : LinkNo → Event → Bool

@@ -7,7 +7,7 @@ use Rattle.zr_msg.specs.declared.error.NodeError.TheVariants as node
 use Rattle.zr_msg.specs.declared.msg.Msg.{Msg}
 use Rattle.zr_msg.specs.Peer.{PeerState}
 use Rattle.zr_open.specs.declared.error.Reason.{Reason}
-use Rattle.zr_port.specs.Coming.{is_passed, messages_of}
+use Rattle.zr_port.specs.Coming.{Answering, is_passed, messages_of}
 use Rattle.zr_port.specs.declared.entry.Entry.{Entry}
 use Rattle.zr_port.specs.declared.error.DeliverError.{DeliverError}
 use Rattle.zr_port.specs.declared.error.DeliverError.TheVariants as deliver
@@ -22,7 +22,7 @@ use Rattle.zr_link.specs.declared.end.LinkEnd.{LinkEnd}
 use Rattle.zr_link.specs.declared.end.LinkEnd.TheVariants as end
 use Rattle.zr_link.specs.Ends.{end_of_delivery}
 use Rattle.zr_link.specs.Heard.{Closes, messages}
-use Rattle.zr_link.specs.Run.{Answering, ComesUp, EarlyEnds, NotTaken, Refuses, Runs, StaysDown, UpEnds}
+use Rattle.zr_link.specs.Run.{ComesUp, EarlyEnds, NotTaken, Refuses, Runs, StaysDown, UpEnds}
 use Rattle.zr_link.specs.Complete.{HasCause, IsComplete, IsNotTaken, IsStopped, IsUnclosed}
 
 -- a refusal that brings an end isn't passed over

@@ -34,12 +34,12 @@ use Rattle.zr_link.specs.declared.end.LinkEnd.{LinkEnd}
 use Rattle.zr_link.specs.declared.end.LinkEnd.TheVariants as end
 use Rattle.zr_link.specs.Ends.{end_of_up, reason_of, IsEarly}
 use Rattle.zr_link.specs.Acts.{Act, Does, up, down, froms}
-use Rattle.zr_port.specs.Coming.{Sight, sight, AddsOne, delivered}
+use Rattle.zr_port.specs.Coming.{Answering, Sight, sight, AddsOne, delivered}
 use Rattle.zr_outside.specs.Told.{Appends}
 use Rattle.zr_link.specs.Heard.{Takes, AreMessages, messages, HearsOn, HearsSomeOn, IsOpen, IsUnopened, IsIn, IsBegun, first_of}
 use Rattle.zr_link.specs.Written.{Gives, Answered, IsWritten, Wrote, WroteAnswers, close_with}
 use Rattle.zr_link.specs.Gone.{IsGone}
-use Rattle.zr_link.specs.Run.{Answering, EarlyEnds, NotTaken, Enters, GoesDown, Runs}
+use Rattle.zr_link.specs.Run.{EarlyEnds, NotTaken, Enters, GoesDown, Runs}
 use Rattle.zr_link.proofs.Hearing.{takes_none, takes_then, as_before, answers_stay}
 use Rattle.zr_link_writer.proofs.Carrying.{appends_both}
 use Rattle.zr_link.proofs.Unopened.{written_more, rose_before}

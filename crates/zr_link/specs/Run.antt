@@ -34,11 +34,7 @@ use Rattle.zr_link.specs.Ends.{end_of_up, end_of_delivery, reason_of, IsEarly}
 use Rattle.zr_link.specs.Heard.{AreBytes, Takes, Heard, Closes, FateIs, messages, first_of, IsOpen}
 use Rattle.zr_link.specs.Acts.{Act, Does, up, down, froms}
 use Rattle.zr_link.specs.Gone.{IsGone}
-use Rattle.zr_port.specs.Coming.{Sight, sight, AddsOne, Looks, Came, messages_of, delivered, Through}
-
--- what calls of `down` answer, by the link, the reason, and what was seen and added before and behind them
-abbrev pub Answering : Type 1
-Answering = LinkNo → Option ℕ → Sight → Sight → Result (Unit {0}) DownError → Type 0
+use Rattle.zr_port.specs.Coming.{Answering, Sight, sight, AddsOne, Looks, Came, messages_of, delivered, Through}
 
 -- ---- messages that are delivered on a link
 

@@ -1,6 +1,6 @@
 -- The extensions that are written of a message: they ascend, each has a spelling, and they say what the message has.
 use Rattle.std.proofs.Common.{◌≡◌, ℕ, ◌+◌, ◌<◌, ◌≤◌, Bool, true, false, List, [], ◌∷◌, ◌++◌, append_assoc, Option, Some, None, Ok, refl, sym, ap, subst, ◌∙◌, arith, eqb, inl, inr}
-use Rattle.std.specs.Prelude.{nat_le, fold}
+use Rattle.std.specs.Prelude.{nat_le, fold, is_some, ◌||◌}
 use Rattle.std.specs.List.{list_all, AllByRecursion}
 use Rattle.std.proofs.lemmas.Bool.{and_parts, eqb-true, le-leb, leb-true, cases_Bool}
 use Rattle.zr_bytes.specs.Flag.{has_flag}
@@ -16,7 +16,7 @@ use Rattle.zr_msg.specs.declared.msg.Target.TheVariants.{Best, All, Complete}
 use Rattle.zr_msg.specs.declared.peer.Role.{Role}
 use Rattle.zr_msg.specs.declared.peer.Role.TheVariants.{Client, Router}
 use Rattle.zr_net.specs.Exts.{push_known, request_known, response_known, final_known, number_at, bytes_at, with_mark, marks_of, extras_of, target_of}
-use Rattle.zr_net.specs.Writing.{number_ext, bytes_ext, target_number, kept_exts, TextFits, NumberFits, NumbersFit, TreeFits}
+use Rattle.zr_net.specs.Writing.{number_ext, bytes_ext, target_number, kept_exts, has_any, TextFits, NumberFits, NumbersFit, TreeFits}
 
 -- the extensions from each one on
 abbrev from_7 : Option (List ℕ) → List Ext
@@ -36,6 +36,39 @@ from_3 e target tree = bytes_ext 3 (has_flag e.marks 0x08) e.responder ++ from_4
 
 abbrev from_2 : Extras → Target → Option (List ℕ) → List Ext
 from_2 e target tree = bytes_ext 2 (has_flag e.marks 0x04) e.stamp ++ from_3 e target tree
+
+-- ---- whether there is one
+
+any_append : (xs ys : List Ext) → has_any (xs ++ ys) ≡ (has_any xs || has_any ys)
+any_append [] ys = refl
+any_append (x ∷ xs) ys = refl
+
+any_number : (id : ℕ) (mandatory : Bool) (n : Option ℕ) → has_any (number_ext id mandatory n) ≡ is_some n
+any_number id mandatory None = refl
+any_number id mandatory (Some n) = refl
+
+any_bytes : (id : ℕ) (mandatory : Bool) (b : Option (List ℕ)) → has_any (bytes_ext id mandatory b) ≡ is_some b
+any_bytes id mandatory None = refl
+any_bytes id mandatory (Some b) = refl
+
+number_more : (id : ℕ) (mandatory : Bool) (n : Option ℕ) (exts : List Ext) (more : Bool) → has_any exts ≡ more → has_any (number_ext id mandatory n ++ exts) ≡ (is_some n || more)
+number_more id mandatory n exts more e =
+    any_append (number_ext id mandatory n) exts ∙ ap (λ b. b || has_any exts) (any_number id mandatory n) ∙ ap (λ b. is_some n || b) e
+
+bytes_more : (id : ℕ) (mandatory : Bool) (b : Option (List ℕ)) (exts : List Ext) (more : Bool) → has_any exts ≡ more → has_any (bytes_ext id mandatory b ++ exts) ≡ (is_some b || more)
+bytes_more id mandatory b exts more e =
+    any_append (bytes_ext id mandatory b) exts ∙ ap (λ z. z || has_any exts) (any_bytes id mandatory b) ∙ ap (λ z. is_some b || z) e
+
+-- a message has an extension where one of these is there
+pub extended_by : (e : Extras) (target : Target) (tree : Option (List ℕ)) → has_any (kept_exts e target tree)
+    ≡ (is_some e.qos || (is_some e.stamp || (is_some e.responder || (is_some (target_number target) || (is_some e.budget || (is_some e.timeout || is_some tree))))))
+extended_by e target tree =
+    number_more 1 (has_flag e.marks 0x02) e.qos (from_2 e target tree) _
+    (bytes_more 2 (has_flag e.marks 0x04) e.stamp (from_3 e target tree) _
+    (bytes_more 3 (has_flag e.marks 0x08) e.responder (from_4 e target tree) _
+    (number_more 4 (has_flag e.marks 0x10) (target_number target) (from_5 e tree) _
+    (number_more 5 (has_flag e.marks 0x20) e.budget (from_6 e tree) _
+    (number_more 6 (has_flag e.marks 0x40) e.timeout (from_7 tree) _ (any_bytes 7 true tree))))))
 
 -- ---- they ascend
 

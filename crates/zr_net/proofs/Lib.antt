@@ -4,3 +4,4 @@ pub mod Kept
 pub mod Written
 pub mod Marks
 pub mod Fitting
+pub mod Names

@@ -106,6 +106,56 @@ writes_net (State _) number = []
 writes_net (Step _ _ _ _) number = []
 writes_net (Snap _ _ _) number = []
 
+-- what stands before the extensions of a message with a key: the header, the id of a request or a reply, and the key
+abbrev pub writes_front : Msg → ℕ → List ℕ
+writes_front (Push tree content) number = writes_keyed 0x1D number (kept_exts content.extras Best tree) ∷ writes_key content.key number
+writes_front (Request tree id target content) number = writes_keyed 0x1C number (kept_exts content.extras target tree) ∷ (writes id ++ writes_key content.key number)
+writes_front (Response id content) number = writes_keyed 0x1B number (kept_exts content.extras Best None) ∷ (writes id ++ writes_key content.key number)
+writes_front (Final id extras) number = []
+writes_front (Sub _ _) number = []
+writes_front (Unsub _) number = []
+writes_front (Token _ _) number = []
+writes_front (Untoken _) number = []
+writes_front (Able _ _ _) number = []
+writes_front (Unable _) number = []
+writes_front (Interest _ _ _ _ _ _) number = []
+writes_front (EndInterest _) number = []
+writes_front (ToldSub _ _ _) number = []
+writes_front (ToldToken _ _ _) number = []
+writes_front (ToldAble _ _ _ _) number = []
+writes_front (ToldUnsub _) number = []
+writes_front (ToldUntoken _) number = []
+writes_front (ToldUnable _) number = []
+writes_front (ToldEnd _) number = []
+writes_front (State _) number = []
+writes_front (Step _ _ _ _) number = []
+writes_front (Snap _ _ _) number = []
+
+-- what stands behind it: the extensions and the body
+abbrev pub writes_back : Msg → List ℕ
+writes_back (Push tree content) = writes_chain (kept_exts content.extras Best tree) ++ content.body
+writes_back (Request tree id target content) = writes_chain (kept_exts content.extras target tree) ++ content.body
+writes_back (Response id content) = writes_chain (kept_exts content.extras Best None) ++ content.body
+writes_back (Final id extras) = []
+writes_back (Sub _ _) = []
+writes_back (Unsub _) = []
+writes_back (Token _ _) = []
+writes_back (Untoken _) = []
+writes_back (Able _ _ _) = []
+writes_back (Unable _) = []
+writes_back (Interest _ _ _ _ _ _) = []
+writes_back (EndInterest _) = []
+writes_back (ToldSub _ _ _) = []
+writes_back (ToldToken _ _ _) = []
+writes_back (ToldAble _ _ _ _) = []
+writes_back (ToldUnsub _) = []
+writes_back (ToldUntoken _) = []
+writes_back (ToldUnable _) = []
+writes_back (ToldEnd _) = []
+writes_back (State _) = []
+writes_back (Step _ _ _ _) = []
+writes_back (Snap _ _ _) = []
+
 -- ---- which have a spelling
 
 -- bytes of an extension that a length tells

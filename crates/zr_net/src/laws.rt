@@ -1,6 +1,6 @@
 //! The laws of network messages, over their definitions alone.
 
-ghost use Rattle.zr_net.specs.Laws.{NetIsRead, NetHasOneReading, WrittenNetIsRead, SpelledNetIsWritten};
+ghost use Rattle.zr_net.specs.Laws.{NetIsRead, NetHasOneReading, WrittenNetIsRead, WrittenNamesAreRead, SpelledNetIsWritten};
 
 /// A message is read exactly where the bytes begin with one, and refused exactly for its first fault.
 pub fn net_is_read()
@@ -15,6 +15,11 @@ pub fn net_has_one_reading()
 /// What is written is read again.
 pub fn written_net_is_read()
     ensures { WrittenNetIsRead }
+{}
+
+/// What declares a number is read again.
+pub fn written_names_are_read()
+    ensures { WrittenNamesAreRead }
 {}
 
 /// Each message that has a spelling can be written.

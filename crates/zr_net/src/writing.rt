@@ -6,7 +6,8 @@ ghost use Rattle.zr_bytes.specs.Number.{writes};
 ghost use Rattle.zr_bytes.specs.Writing.{KeepsFront};
 ghost use Rattle.zr_format_spec.specs.Writing.{writes_header};
 ghost use Rattle.zr_ext.specs.Writing.{ascends_from, writes_chain, Fits as ExtFits};
-ghost use Rattle.zr_net.specs.Writing.{number_ext, bytes_ext, target_number, kept_exts, has_any, writes_keyed, writes_content, writes_push, writes_request, writes_response, writes_final, writes_net, TextFits, Fits};
+ghost use Rattle.zr_wirekey.specs.Writing.{writes_key};
+ghost use Rattle.zr_net.specs.Writing.{number_ext, bytes_ext, target_number, kept_exts, has_any, writes_keyed, writes_content, writes_push, writes_request, writes_response, writes_final, writes_front, writes_net, TextFits, Fits};
 
 use crate::parts::{
     ALL, BUDGET, BUDGET_MARK, COMPLETE, PUSH, QOS, QOS_MARK, REQUEST, RESPONDER, RESPONDER_MARK,
@@ -35,6 +36,104 @@ pub fn write_net(out: &mut Vec<u8>, msg: &Msg, number: u16) -> Result<(), AllocE
     let start = out.len();
     let put = put_net(out, msg, number);
     all_or_nothing(out, start, put)
+}
+
+/// Appends what stands before the extensions of a sample, a request or a reply: the header, the id, and the key as in `write_net`. Where memory runs out nothing
+/// is appended.
+pub fn write_front(out: &mut Vec<u8>, msg: &Msg, number: u16) -> Result<(), AllocError>
+    ensures ok { OnOk result (out.new.items ≡ out.old.items ++ writes_front msg.now number) }
+    ensures err { OnErr result (out.new.items ≡ out.old.items) }
+{
+    let start = out.len();
+    let put = put_front(out, msg, number);
+    all_or_nothing(out, start, put)
+}
+
+fn put_front(out: &mut Vec<u8>, msg: &Msg, number: u16) -> Result<(), AllocError>
+    ensures ok { OnOk result (out.new.items ≡ out.old.items ++ writes_front msg.now number) }
+    ensures err { OnErr result (KeepsFront out.old.items out.new.items) }
+{
+    match msg {
+        Msg::Push { tree, content } => {
+            let extended = is_extended(content.extras(), Target::Best, tree);
+            put_push_front(out, content, number, extended)
+        }
+        Msg::Request {
+            tree,
+            id,
+            target,
+            content,
+        } => {
+            let extended = is_extended(content.extras(), *target, tree);
+            put_numbered_front(out, REQUEST, *id, content, number, extended)
+        }
+        Msg::Response { id, content } => {
+            let extended = is_extended(content.extras(), Target::Best, &None);
+            put_numbered_front(out, RESPONSE, *id, content, number, extended)
+        }
+        Msg::Final { .. }
+        | Msg::Sub { .. }
+        | Msg::Unsub { .. }
+        | Msg::Token { .. }
+        | Msg::Untoken { .. }
+        | Msg::Able { .. }
+        | Msg::Unable { .. }
+        | Msg::Interest { .. }
+        | Msg::EndInterest { .. }
+        | Msg::ToldSub { .. }
+        | Msg::ToldAble { .. }
+        | Msg::ToldUnsub { .. }
+        | Msg::ToldToken { .. }
+        | Msg::ToldUntoken { .. }
+        | Msg::ToldUnable { .. }
+        | Msg::ToldEnd { .. }
+        | Msg::State { .. }
+        | Msg::Step { .. }
+        | Msg::Snap { .. } => Ok(()),
+    }
+}
+
+fn put_push_front(
+    out: &mut Vec<u8>,
+    content: &content::Content,
+    number: u16,
+    extended: bool,
+) -> Result<(), AllocError>
+    ensures ok { OnOk result (out.new.items ≡ out.old.items ++ writes_header 0x1D (number == 0) (not (number == 0)) extended ∷ writes_key content.now.key number) }
+    ensures err { OnErr result (KeepsFront out.old.items out.new.items) }
+{
+    out.push(header_byte(PUSH, number == 0, number != 0, extended))?;
+    write_key(out, content.key(), number)
+}
+
+fn put_numbered_front(
+    out: &mut Vec<u8>,
+    message: u8,
+    id: u32,
+    content: &content::Content,
+    number: u16,
+    extended: bool,
+) -> Result<(), AllocError>
+    ensures ok { OnOk result (out.new.items ≡ out.old.items ++ writes_header message (number == 0) (not (number == 0)) extended ∷ (writes id ++ writes_key content.now.key number)) }
+    ensures err { OnErr result (KeepsFront out.old.items out.new.items) }
+{
+    out.push(header_byte(message, number == 0, number != 0, extended))?;
+    put_zint(out, u64::from(id))?;
+    write_key(out, content.key(), number)
+}
+
+// Whether a message has an extension.
+#[tactic(auto, using(crate::proofs::Kept::extended_by))]
+fn is_extended(extras: &Extras, target: Target, tree: &Option<Zid>) -> bool
+    ensures { result ≡ has_any (kept_exts extras.now target tree.now) }
+{
+    extras.qos.is_some()
+        || extras.stamp.is_some()
+        || extras.responder.is_some()
+        || number_of(target).is_some()
+        || extras.budget.is_some()
+        || extras.timeout.is_some()
+        || tree.is_some()
 }
 
 fn put_net(out: &mut Vec<u8>, msg: &Msg, number: u16) -> Result<(), AllocError>

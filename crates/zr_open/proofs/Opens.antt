@@ -28,18 +28,18 @@ routers_open a d = record {
   init_answer = init_answer a (record { id = d.me; role = Router; weight = a.weight }) usual;
   opening = Open false true 10 (d.word % modulus_of 2) (Some (cookie_of a d.me));
   opening_answer = Open true true 10 (a.word % modulus_of 2) None;
-  wants_opening = expects.Open (record { id = d.me; role = Router; weight = a.weight }) (outbox_of a usual);
-  wants_answer = expects.OpenAnswer (record { id = a.me; role = Router; weight = d.weight }) (outbox_of d usual);
+  wants_opening = expects.Open (record { id = d.me; role = Router; weight = a.weight }) (outbox_of a Router usual);
+  wants_answer = expects.OpenAnswer (record { id = a.me; role = Router; weight = d.weight }) (outbox_of d Router usual);
   accepted = record {
     peer = record { id = d.me; role = Router; weight = a.weight };
-    outbox = outbox_of a usual;
+    outbox = outbox_of a Router usual;
     first = d.word % modulus_of 2;
     lease = 10000;
     answer = Some (Open true true 10 (a.word % modulus_of 2) None);
   };
   dialled = record {
     peer = record { id = a.me; role = Router; weight = d.weight };
-    outbox = outbox_of d usual;
+    outbox = outbox_of d Router usual;
     first = a.word % modulus_of 2;
     lease = 10000;
     answer = None;
@@ -71,7 +71,7 @@ told_again s = by (s.bits == 2 + 4 * 2) (s.batch == 65535) refl refl
 
 pub client_opens : (o : OpeningState) (id : List ℕ) (sizes : Option Sizes) → 64 ≤ (agreed (offered sizes)).batch → ClientOpens o id sizes
 client_opens o id sizes large = record {
-  wants_opening = expects.Open (record { id = id; role = Client; weight = 1 }) (outbox_of o s);
+  wants_opening = expects.Open (record { id = id; role = Client; weight = 1 }) (outbox_of o Client s);
   told = told s;
   cookie = Some (cookie_of o id);
   on_init = rw enough refl;
@@ -82,10 +82,10 @@ client_opens o id sizes large = record {
       let b : first < modulus_of (frame_bits s) = rw (told_again s) at below in grind (arith, nat_tests, b) in (
         record {
           peer = record { id = id; role = Client; weight = 1 };
-          outbox = outbox_of o s;
+          outbox = outbox_of o Client s;
           first = first;
           lease = milliseconds seconds lease;
-          answer = Some (Open true true 10 (outbox_of o s).next None);
+          answer = Some (Open true true 10 (outbox_of o Client s).next None);
         },
         rw (same_bytes (cookie_of o id), lasts, in_range) refl,
         refl,

@@ -1,7 +1,7 @@
 -- How a session opens: one table for both ends (Zenoh protocol 1.0, "Session establishment"). An accepting end expects
 -- INIT, answers it, expects OPEN, and then the session is open. A dialling end sends INIT, expects its answer, sends OPEN,
 -- expects its answer, and then the session is open.
-use Rattle.std.specs.Prelude.{◌≡◌, ℕ, ◌%◌, ◌*◌, ◌^◌, ◌-◌, ◌<◌, ◌==◌, min, Bool, true, false, not, ◌&&◌, List, length, Option, Some, None, Result, Ok, Err, nat_lt, nat_eq, if◌then◌else◌}
+use Rattle.std.specs.Prelude.{◌≡◌, ℕ, ◌%◌, ◌*◌, ◌^◌, ◌-◌, ◌<◌, ◌==◌, min, Bool, true, false, not, ◌&&◌, List, [], length, Option, Some, None, Result, Ok, Err, nat_lt, nat_eq, if◌then◌else◌}
 use Rattle.std.specs.Cmp.Lexicographic.{pointwise}
 use Rattle.zr_trans.specs.declared.trans.Sizes.{Sizes}
 use Rattle.zr_trans.specs.declared.trans.Trans.{Trans}
@@ -9,6 +9,7 @@ use Rattle.zr_trans.specs.declared.trans.Trans.TheVariants.{Init, Open, Close, K
 use Rattle.zr_trans.specs.Writing.{writes_trans, Fits}
 use Rattle.zr_msg.specs.declared.peer.Role.{Role}
 use Rattle.zr_msg.specs.declared.peer.Role.TheVariants.{Client, Router}
+use Rattle.zr_wirekey.specs.Names.{NameList}
 use Rattle.zr_frame.specs.Turn.{modulus_of}
 use Rattle.zr_frame.specs.Outbox.{OutboxState}
 use Rattle.zr_open.specs.declared.error.OpenError.{OpenError}
@@ -48,9 +49,14 @@ peer_in None id batch weight = Err (Closed Unsupported)
 peer_in (Some role) id batch weight =
     if nat_lt batch 64 then Err (Closed Invalid) else Ok (record { id = id; role = role; weight = weight_for weight role })
 
+-- Between routers each end gives numbers to the texts of keys, and none has one yet. A client is sent whole keys.
+abbrev pub names_for : Role → Option NameList
+names_for Client = None
+names_for Router = Some []
+
 -- What this end sends by: its first frame has the random word as its number, within the modulus.
-abbrev pub outbox_of : OpeningState → Sizes → OutboxState
-outbox_of o s = record { batch = s.batch; bits = frame_bits s; next = o.word % modulus_of (frame_bits s) }
+abbrev pub outbox_of : OpeningState → Role → Sizes → OutboxState
+outbox_of o role s = record { batch = s.batch; bits = frame_bits s; next = o.word % modulus_of (frame_bits s); names = names_for role }
 
 -- A session doesn't open with a lease of nothing, or a first number that is none.
 abbrev pub may_open : OutboxState → ℕ → ℕ → Bool
@@ -86,7 +92,7 @@ init_answer o who s = Init true 9 0 o.me (told s) (Some (cookie_of o who.id)) (s
 
 abbrev pub greeted : OpeningState → Sizes → Result peer.PeerState OpenError → Result Progress OpenError
 greeted o s (Err e) = Err e
-greeted o s (Ok who) = Ok (progress.Answers (expects.Open who (outbox_of o s)) (init_answer o who s))
+greeted o s (Ok who) = Ok (progress.Answers (expects.Open who (outbox_of o who.role s)) (init_answer o who s))
 
 -- INIT is judged by the sizes on which both agree.
 abbrev pub on_init : OpeningState → Trans → Result Progress OpenError
@@ -113,7 +119,7 @@ greeting o = Init false 9 0 o.me None None (Some 2)
 abbrev pub dialled : OpeningState → Sizes → Option (List ℕ) → Result peer.PeerState OpenError → Result Progress OpenError
 dialled o s cookie (Err e) = Err e
 dialled o s cookie (Ok who) =
-    if is_within s then Ok (progress.Answers (expects.OpenAnswer who (outbox_of o s)) (Open false true 10 (outbox_of o s).next cookie))
+    if is_within s then Ok (progress.Answers (expects.OpenAnswer who (outbox_of o who.role s)) (Open false true 10 (outbox_of o who.role s).next cookie))
     else Err (Closed Invalid)
 
 -- The answer to INIT: sizes above those that were offered are refused last.

@@ -70,7 +70,7 @@ impl Opening {
         Ok(Progress::Answers {
             expected: Expected::Open {
                 peer,
-                outbox: self.outbox(sizes),
+                outbox: self.outbox(peer.role, sizes),
             },
             answer: self.init_answer(alloc, peer, sizes)?,
         })
@@ -93,12 +93,16 @@ impl Opening {
     }
 
     /// What this end sends by, once it is open.
-    fn outbox(&self, sizes: Sizes) -> Outbox
+    fn outbox(&self, role: Role, sizes: Sizes) -> Outbox
         requires { 64 ≤ sizes.batch }
-        ensures { result ≡ outbox_of self.now sizes }
+        ensures { result ≡ outbox_of self.now role sizes }
     {
         let bits = frame_bits(sizes);
-        Outbox::new(sizes.batch, bits, self.word % modulus(bits))
+        let outbox = Outbox::new(sizes.batch, bits, self.word % modulus(bits));
+        match role {
+            Role::Client => outbox,
+            Role::Router => outbox.with_names(),
+        }
     }
 
     fn on_open(&self, peer: Peer, outbox: Outbox, t: &Trans) -> Result<Progress, OpenError>
@@ -167,7 +171,7 @@ impl Opening {
         if !is_within(sizes) {
             return Err(INVALID);
         }
-        let outbox = self.outbox(sizes);
+        let outbox = self.outbox(peer.role, sizes);
         Ok(Progress::Answers {
             expected: Expected::OpenAnswer { peer, outbox },
             answer: Trans::Open {

@@ -1,5 +1,5 @@
 -- How messages come over a link that is up: each is delivered, which adds its entry, or passed over.
-use Rattle.std.specs.Prelude.{◌≡◌, ◌≢◌, ℕ, Bool, true, false, List, [], ◌∷◌, ◌++◌, map, Option, None}
+use Rattle.std.specs.Prelude.{◌≡◌, ◌≢◌, ℕ, Bool, true, false, List, [], ◌∷◌, ◌++◌, map, Option, None, Result}
 use mathlib.Core.List.{IsPrefix}
 use Rattle.zr_id.specs.declared.link.LinkNo.{LinkNo}
 use Rattle.zr_msg.specs.declared.event.Event.{Event}
@@ -11,6 +11,7 @@ use Rattle.zr_hist.specs.Words.{seen, mine}
 use Rattle.zr_port.specs.declared.entry.Entry.{Entry}
 use Rattle.zr_port.specs.declared.error.DeliverError.{DeliverError}
 use Rattle.zr_port.specs.declared.error.DeliverError.TheVariants as deliver
+use Rattle.zr_port.specs.declared.error.DownError.{DownError}
 use Rattle.zr_port.specs.Adding.{IsEntryOf, IsAdmitted}
 
 -- what a pass has seen at a moment, and the entries that it has added by then
@@ -33,6 +34,10 @@ pub record AddsOne (event : Event) (outbox : Option OutboxState) (reason : Optio
 -- nothing was added, and what was seen before is a prefix
 abbrev pub Looks : Sight → Sight → Type 0
 Looks old new = (new.mine ≡ old.mine) × IsPrefix old.seen new.seen
+
+-- what calls of `down` answer, by the link, the reason, and what was seen and added before and behind them
+abbrev pub Answering : Type 1
+Answering = LinkNo → Option ℕ → Sight → Sight → Result (Unit {0}) DownError → Type 0
 
 -- A refusal by which a message is passed over, and those behind it come: a rule denies the message, or it takes back what may have been denied
 abbrev pub is_passed : DeliverError → Bool

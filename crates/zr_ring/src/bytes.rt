@@ -1,5 +1,5 @@
-//! The bytes of a parcel: a head of its own, and a body that parcels of several rings may share.
-ghost use Rattle.std.specs.Prelude.{◌≡◌, ◌≤◌, ◌++◌, length};
+//! The bytes of a parcel: a head of its own, and a body that parcels of several rings may share, or the end of one.
+ghost use Rattle.std.specs.Prelude.{◌≡◌, ◌≤◌, ◌++◌, drop, length};
 ghost use Rattle.zr_ring.specs.declared.bytes.TheConstants.{MOST_HEAD};
 
 use arrayvec::ArrayVec;
@@ -7,22 +7,25 @@ use std::marker::Model;
 use zr_bytes::ByteString;
 use zr_msg::shared::Shared;
 
-/// The most bytes of a head.
-pub const MOST_HEAD: usize = 12;
+/// The most bytes of a head: what stands before a message in its frame (at most 10), and the header, the id and the numbered key of a message (at most 9).
+pub const MOST_HEAD: usize = 20;
 
 /// Contracts see all bytes, those of the head first.
 #[derive(Drop)]
 pub struct Bytes {
     head: ArrayVec<u8, MOST_HEAD>,
     body: Shared<ByteString>,
+    // where the part of the body that belongs to the parcel begins
+    from: usize,
+    ghost within: { from ≤ length body },
 }
 
 impl Model for Bytes {
-    ghost use Rattle.std.specs.Prelude.{◌++◌, List, ℕ};
+    ghost use Rattle.std.specs.Prelude.{◌++◌, List, ℕ, drop};
 
     ghost Value = { List ℕ };
 
-    ghost view = { λ b. b.head.items ++ b.body };
+    ghost view = { λ b. b.head.items ++ drop b.from b.body };
 }
 
 impl Bytes {
@@ -33,6 +36,7 @@ impl Bytes {
         Bytes {
             head: ArrayVec::new(),
             body,
+            from: 0,
         }
     }
 
@@ -44,6 +48,20 @@ impl Bytes {
         Bytes {
             head: short(head),
             body,
+            from: 0,
+        }
+    }
+
+    /// A head, and behind it what stands in a body from a place on. It takes no memory.
+    pub fn before(head: &[u8], body: Shared<ByteString>, from: usize) -> Bytes
+        requires short { length head.now ≤ MOST_HEAD }
+        requires within { from ≤ length body }
+        ensures { result ≡ head.now ++ drop from body }
+    {
+        Bytes {
+            head: short(head),
+            body,
+            from,
         }
     }
 
@@ -51,7 +69,10 @@ impl Bytes {
     pub fn parts(&self) -> (&[u8], &[u8])
         ensures { result.0.now ++ result.1.now ≡ self.now }
     {
-        (self.head.as_slice(), self.body.get().as_slice())
+        (
+            self.head.as_slice(),
+            &self.body.get().as_slice()[self.from..],
+        )
     }
 }
 

@@ -20,6 +20,10 @@ pub get_between : {X : Type 0} (xs : List X) (x : X) (ys : List X) → slice_get
 get_between [] x ys = refl
 get_between (z ∷ xs) x ys = get_between xs x ys
 
+-- the element at the end of what is before it
+pub stands_next : (xs before : List (List ℕ)) (x : List ℕ) (more : List (List ℕ)) (place : ℕ) → xs ≡ before ++ x ∷ more → place ≡ length before → slice_get xs place ≡ Some x
+stands_next xs before x more place is at = ap (λ z. slice_get z place) is ∙ ap (λ n. slice_get (before ++ x ∷ more) n) at ∙ get_between before x more
+
 open_count : (x : Bool) (n : ℕ) → x ≡ true → n - ends_given x ≡ n
 open_count true n e = omega arith
 open_count false n e = absurd (false≢true e)

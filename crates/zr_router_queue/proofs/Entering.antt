@@ -12,9 +12,9 @@ use Rattle.zr_msg.specs.declared.msg.Msg.{Msg}
 use Rattle.zr_told_spec.specs.Hub.{HubState, hub_sends, hub_refuses}
 use Rattle.zr_node_spec.specs.Event.{on_link}
 use Rattle.zr_frame.specs.Outbox.{OutboxState}
-use Rattle.zr_frame.specs.Packing.{packed, parcels}
+use Rattle.zr_frame.specs.Packing.{packed}
+use Rattle.zr_frame_pack.specs.Packing.{parcels_of}
 use Rattle.zr_port.specs.declared.entry.Entry.{Entry}
-use Rattle.zr_wire.specs.Writing.{writes_message}
 use Rattle.zr_router_queue.specs.Tables.{Tables, replay, queues_at, queued_by, queue_of, is_among, is_droppable, is_other, slots_of, open_queues}
 use Rattle.zr_router_queue.specs.History.{may_come, has_parts, is_over, may_lack, queue_passes, may_be_dropped, may_be_closed, may_follow, is_legal}
 use Rattle.zr_router_queue.specs.Ends.{PlanState, EndState, IsEntered, IsPlan, IsPlanned, IsPlannedFor, IsSettled, MayEnter, is_closing, is_dropped, lacks_room}
@@ -55,7 +55,7 @@ both_true : (a b : Bool) → a ≡ true → b ≡ true → a && b ≡ true
 both_true true b e f = f
 both_true false b e f = cc
 
-none_packed : (o : OutboxState) → length (parcels o []).batches ≡ 0
+none_packed : (o : OutboxState) → length (parcels_of o []).batches ≡ 0
 unfolding packed
 none_packed o = refl
 
@@ -85,7 +85,7 @@ closed_may t e x found planned is = by x.plan planned is
         let few : x.free < length p.parcels.batches = grind (arith, nat_tests, both.0) in
         let some : hub_sends t.hub e.event x.queue.link ≡ [] → ⊥ = λ none.
         let zero : length p.parcels.batches ≡ 0 =
-        ap (λ z. length z.batches) plan.1 ∙ ap (λ messages. length (parcels x.queue.outbox (map writes_message messages)).batches) none ∙ none_packed x.queue.outbox in
+        ap (λ z. length z.batches) plan.1 ∙ ap (λ messages. length (parcels_of x.queue.outbox messages).batches) none ∙ none_packed x.queue.outbox in
         omega (arith, few, zero) in
         both_true (is_other (hub_sends t.hub e.event x.queue.link)) _ (other_of (hub_sends t.hub e.event x.queue.link) (ap not (sym plan.2) ∙ both.1) some)
         (lack_passes t e x p found plan both.0)

@@ -8,6 +8,8 @@ pub mod KeptReplays
 pub mod Logs
 pub mod Lookups
 pub mod Plans
+pub mod Planning
+pub mod Fronts
 pub mod Replays
 pub mod Rings
 pub mod Same

@@ -9,9 +9,9 @@ use Rattle.zr_ring.specs.declared.parcel.Note.{Ghosts}
 use Rattle.zr_ring.specs.declared.giver.Giver.{Giver}
 use Rattle.zr_ring.specs.declared.taker.Taker.{Taker}
 use Rattle.zr_told_spec.specs.Hub.{HubState, hub_refuses, hub_sends}
-use Rattle.zr_frame.specs.Packing.{Parcels, parcels}
+use Rattle.zr_frame.specs.Packing.{Parcels}
+use Rattle.zr_frame_pack.specs.Packing.{parcels_of}
 use Rattle.zr_port.specs.declared.entry.Entry.{Entry}
-use Rattle.zr_wire.specs.Writing.{writes_message}
 use Rattle.zr_router_queue.specs.Tables.{LinkQueue, batches_for, slots_of, is_droppable, is_among, queued, queued_by, queues_at, replay, open_queues}
 use Rattle.zr_router_queue.specs.Note.{full_reason}
 use Rattle.zr_router_queue.specs.History.{has_parts, is_legal, may_come}
@@ -78,7 +78,7 @@ is_closing e = option_map_or (λ p. lacks_room e.free p && not p.droppable) e.pl
 -- the plan is that of messages for the link, in parcels; there is none for a link that was closed before
 abbrev pub IsPlan : List Msg → EndState → Option PlanState → Type 0
 IsPlan messages e None = is_some e.queue.closed ≡ true
-IsPlan messages e (Some p) = (e.queue.closed ≡ None) × (p.parcels ≡ parcels e.queue.outbox (map writes_message messages))
+IsPlan messages e (Some p) = (e.queue.closed ≡ None) × (p.parcels ≡ parcels_of e.queue.outbox messages)
     × (p.droppable ≡ is_droppable messages) × (e.free < length p.parcels.batches → IsOver e.queue (length p.parcels.batches))
 
 abbrev pub IsPlannedFor : List Msg → EndState → Type 0

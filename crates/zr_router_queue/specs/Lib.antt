@@ -5,3 +5,4 @@ pub mod Held
 pub mod Batches
 pub mod Ends
 pub mod Grows
+pub mod Planned

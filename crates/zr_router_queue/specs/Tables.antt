@@ -13,9 +13,9 @@ use Rattle.zr_msg.specs.declared.event.Event.TheVariants.{Up, Down, From}
 use Rattle.zr_node_spec.specs.Tables.{link_at}
 use Rattle.zr_told_spec.specs.Hub.{HubState, hub_after, hub_sends, new_hub}
 use Rattle.zr_frame.specs.Outbox.{OutboxState}
-use Rattle.zr_frame.specs.Packing.{Parcels, parcels}
+use Rattle.zr_frame.specs.Packing.{Parcels}
+use Rattle.zr_frame_pack.specs.Packing.{parcels_of}
 use Rattle.zr_port.specs.declared.entry.Entry.{Entry}
-use Rattle.zr_wire.specs.Writing.{writes_message}
 
 -- ---- the data
 
@@ -41,7 +41,7 @@ new_tables me = record { hub = new_hub me; queues = [] }
 
 -- what an event sends on a link, in parcels
 abbrev pub batches_for : HubState → Event → OutboxState → LinkNo → Parcels
-batches_for hub event outbox link = parcels outbox (map writes_message (hub_sends hub event link))
+batches_for hub event outbox link = parcels_of outbox (hub_sends hub event link)
 
 -- a link is among these
 abbrev pub is_among : List LinkNo → LinkNo → Bool

@@ -13,6 +13,7 @@ ghost use Rattle.zr_router_queue.specs.History.{is_legal};
 ghost use Rattle.zr_router_queue.specs.Ends.{IsAsked, IsEntered, IsPlannedAnew, IsPlannedFor, IsSameRing, IsSettled, MayEnter, is_closing, is_dropped};
 
 use crate::link_end::LinkSender;
+use crate::scratch::Scratch;
 use crate::written::written;
 use std::alloc::{AllocError, Global};
 use zr_frame::Outbox;
@@ -22,7 +23,6 @@ use zr_id::zid::Zid;
 use zr_msg::event::Event;
 use zr_msg::msg::Msg;
 use zr_port::{Entry, Links};
-use zr_ring::MOST_HEAD;
 
 /// Plans what an event sends on each link that is up, and makes its entry, which names the links whose rings lack room.
 pub fn prepare(
@@ -88,9 +88,9 @@ fn plan_all(
     ensures { OnOk result (AllZip (λ old new. IsPlannedAnew (on_link old.queue.link sent.now) old new) ends.old ends.new) }
 {
     let written = written(alloc, sent)?;
-    let mut head = Vec::with_capacity(alloc, MOST_HEAD)?;
+    let mut scratch = Scratch::new(alloc)?;
     for end in ends.iter_mut() {
-        end.plan(alloc, sent, &written, &mut head)?;
+        end.plan(alloc, sent, &written, &mut scratch)?;
     }
     Ok(())
 }

@@ -10,6 +10,7 @@ mod pack;
 mod plan;
 mod queue;
 mod same_sample;
+mod scratch;
 mod written;
 
 pub use event::{enter, prepare};

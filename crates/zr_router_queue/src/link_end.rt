@@ -1,6 +1,6 @@
 //! One link that is up, as the tables keep it: what it sends by, and the ring to its writer.
 
-ghost use Rattle.std.specs.Prelude.{◌≡◌, ◌+◌, ◌<◌, ◌≤◌, ◌++◌, ℕ, List, [], ◌∷◌, Option, Some, None, is_none, option_map, IfOk, IfSome, OnOk, length};
+ghost use Rattle.std.specs.Prelude.{◌≡◌, ◌+◌, ◌<◌, ◌≤◌, ◌++◌, ℕ, List, [], ◌∷◌, Option, Some, None, is_none, is_some, option_map, All, IfOk, IfSome, OnOk, length};
 ghost use Rattle.std.specs.List.{AllByRecursion};
 ghost use Rattle.zr_hist.specs.Words.{name, pass_name, IsSamePass, IsPassOf, seen, mine};
 ghost use Rattle.zr_ring.specs.Content.{end};
@@ -8,6 +8,8 @@ ghost use Rattle.zr_ring.specs.Giver.{sent, is_going, number, slots_of, free_slo
 ghost use Rattle.zr_ring.specs.Items.{end_of, most_parcels};
 ghost use Rattle.zr_ring.specs.Taker.{taken, take_calls};
 ghost use Rattle.zr_node_spec.specs.Event.{on_link};
+ghost use Rattle.zr_frame_pack.specs.Marks as marks;
+ghost use Rattle.zr_frame_pack.specs.Writable.{IsWritable};
 ghost use Rattle.zr_told_spec.specs.Hub.{HubState};
 ghost use Rattle.zr_router_queue.specs.Batches.{written_of};
 ghost use Rattle.zr_router_queue.specs.Tables as tables;
@@ -18,10 +20,12 @@ ghost use Rattle.zr_router_queue.specs.Ends.{new_end, with_queue, giver_ring, ta
 use crate::link_batches::Batches;
 use crate::note::Queued;
 use crate::plan::Plan;
+use crate::scratch::Scratch;
 use std::alloc::{AllocError, Global};
 use std::marker::Model;
 use zr_bytes::ByteString;
 use zr_frame::Outbox;
+use zr_frame_pack::{Mark, NamingOutbox};
 use zr_hist::{History, Pass};
 use zr_id::link::LinkNo;
 use zr_id::zid::Zid;
@@ -56,7 +60,10 @@ pub struct Closing {
 pub struct LinkSender {
     link: LinkNo,
     role: Role,
-    outbox: Outbox,
+    // behind what is planned
+    outbox: NamingOutbox,
+    // where it stands behind all that the ring was given
+    mark: Mark,
     giver: Giver<Queued>,
     // the place of the next parcel, and the free slots that are known
     place: u64,
@@ -71,17 +78,21 @@ pub struct LinkSender {
     ghost counted: { place ≡ number giver },
     ghost known: { free ≡ free_slots giver },
     ghost small: { place + free ≤ most_parcels },
+    ghost alike: { is_some outbox.names ≡ is_some mark.outbox.names },
+    ghost kept: { mark.count ≤ marks.known outbox.names mark.count },
 }
 
 impl Model for LinkSender {
     ghost use Rattle.std.specs.Prelude.{true, option_map};
+    ghost use Rattle.zr_frame_pack.specs.Marks.{at_mark};
     ghost use Rattle.zr_router_queue.specs.Ends.{EndState, giver_ring};
+    ghost use Rattle.zr_router_queue.specs.Planned.{planned};
     ghost use Rattle.zr_router_queue.specs.Note.{batches_of};
     ghost use Rattle.zr_ring.specs.Giver.{sent, free_calls};
 
     ghost Value = { EndState };
 
-    ghost view = { λ e. record { queue = record { link = e.link; role = e.role; is_up = true; outbox = e.outbox; batches = batches_of (sent e.giver); closed = option_map (λ c. c.asked) e.closed }; ring = giver_ring e.giver; free = e.free; calls = free_calls e.giver; plan = e.plan } };
+    ghost view = { λ e. record { queue = record { link = e.link; role = e.role; is_up = true; outbox = at_mark e.outbox e.mark; batches = batches_of (sent e.giver); closed = option_map (λ c. c.asked) e.closed }; ring = giver_ring e.giver; free = e.free; calls = free_calls e.giver; plan = option_map (planned e.outbox) e.plan } };
 }
 
 /// How many parcels wait for a peer at most.
@@ -106,10 +117,13 @@ impl LinkSender {
         ensures taker { IfOk result (λ r. (taken r.1 ≡ []) × (take_calls r.1 ≡ 0)) }
     {
         let (giver, taker) = ring(alloc, slots_of(role))?;
+        let outbox = NamingOutbox::new(alloc, outbox);
+        let mark = outbox.mark();
         let end = LinkSender {
             link,
             role,
             outbox,
+            mark,
             giver,
             place: 0,
             free: slots_of(role),
@@ -130,7 +144,7 @@ impl LinkSender {
     pub fn batch(&self) -> u16
         ensures { result ≡ self.now.queue.outbox.batch }
     {
-        self.outbox.batch()
+        self.mark.batch()
     }
 
     /// How many of the ring's slots were free as it was asked last, less those that were filled since.
@@ -149,27 +163,29 @@ impl LinkSender {
     }
 
     /// Works out what an event has for the link among all that it sends and what was written of it. A link that an event has closed gets nothing any
-    /// more. The memory of `head` is used.
-    #[tactic(auto, using(crate::proofs::Plans::on_written))]
+    /// more. The memory of `scratch` is used.
     pub(crate) fn plan(
         &mut self,
         alloc: Global,
         sent: &[(LinkNo, Msg)],
         written: &[(LinkNo, Shared<ByteString>)],
-        head: &mut Vec<u8>,
+        scratch: &mut Scratch,
     ) -> Result<(), AllocError>
-        requires { written.now ≡ written_of sent.now }
+        requires writable { All (λ x. IsWritable x.1) sent.now }
+        requires written { written.now ≡ written_of sent.now }
         ensures queue { self.new.queue ≡ self.old.queue }
         ensures planned { OnOk result (IsPlannedFor (on_link self.old.queue.link sent.now) self.new) }
         ensures asked { OnOk result (IsAsked self.old self.new) }
     {
         self.plan = None;
+        self.outbox.return_to(self.mark); // behind a plan that the ring wasn't given
         if self.closed.is_some() {
             return Ok(());
         }
-        let plan = Plan::of(alloc, sent, written, self.link, self.outbox, head)?;
-        self.ask(plan.batches.count());
+        let plan = Plan::of(alloc, sent, written, self.link, &mut self.outbox, scratch)?;
+        let parcels = plan.batches.count();
         self.plan = Some(plan);
+        self.ask(parcels);
         Ok(())
     }
 
@@ -249,41 +265,44 @@ impl LinkSender {
         ensures queue { (hub : HubState) → IsPlanned hub entry.now.event self.old → self.new.queue ≡ queued_by hub entry.now self.old.queue }
         ensures ring { IsSameRing self.old self.new }
     {
-        let Some(plan) = self.plan.take() else {
+        let Some(plan) = &self.plan else {
             return;
         };
+        let asked = plan.batches.count() as u64;
         if is_among(entry.closed.as_slice(), self.link) {
             let closing = Closing {
-                asked: plan.batches.count() as u64,
+                asked,
                 free: self.free,
             };
+            self.plan = None;
             let note = self.note(history, pass, me);
             self.close(closing, note);
-        } else if !is_among(entry.dropped.as_slice(), self.link) {
-            self.give_plan(history, pass, me, plan);
+        } else if is_among(entry.dropped.as_slice(), self.link) {
+            self.plan = None;
+        } else {
+            self.give_plan(history, pass, me);
         }
     }
 
     // Gives the ring what an event has for the link, which the list of entries that the pass has seen queues next. There is room for it.
-    fn give_plan(&mut self, history: &History<Entry>, pass: &mut Pass<Entry>, me: Zid, plan: Plan)
+    fn give_plan(&mut self, history: &History<Entry>, pass: &mut Pass<Entry>, me: Zid)
         requires open { self.old.queue.closed ≡ None }
         requires pass { IsPassOf history.now pass.old }
-        requires room { length plan.parcels.batches ≤ self.old.free }
-        requires queued { queued me (seen pass.old) self.old.queue.link ≡ self.old.queue.batches ++ plan.parcels.batches }
+        requires room { IfSome self.old.plan (λ p. length p.parcels.batches ≤ self.old.free) }
+        requires queued { IfSome self.old.plan (λ p. queued me (seen pass.old) self.old.queue.link ≡ self.old.queue.batches ++ p.parcels.batches) }
         ensures pass { IsSamePass pass.old pass.new × (seen pass.new ≡ seen pass.old) × (mine pass.new ≡ mine pass.old) }
-        ensures queue { self.new.queue ≡ with_parcels self.old.queue plan.parcels }
-        ensures same { IsSameRing self.old self.new × (self.new.plan ≡ self.old.plan) }
+        ensures queue { IfSome self.old.plan (λ p. self.new.queue ≡ with_parcels self.old.queue p.parcels) }
+        ensures same { IsSameRing self.old self.new }
     {
-        let Plan {
-            batches,
-            outbox,
-            ..
-        } = plan;
+        let Some(plan) = self.plan.take() else {
+            return;
+        };
+        self.mark = self.outbox.mark(); // the outbox stands behind the plan
+        let Plan { batches, .. } = plan;
         match batches {
             Batches::One(bytes) => self.give_one(history, pass, me, bytes),
             Batches::Several(batches) => self.give_all(history, pass, me, batches),
         }
-        self.outbox = outbox;
     }
 
     // Gives the ring the next parcels, for which there is room.

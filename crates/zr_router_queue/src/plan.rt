@@ -1,19 +1,21 @@
 //! What an event has for one link, worked out before anything is given.
 
-ghost use Rattle.std.specs.Prelude.{◌≡◌, ◌≤◌, IfOk, length};
+ghost use Rattle.std.specs.Prelude.{◌≡◌, ◌≤◌, All, IfOk, OnOk, length};
 ghost use Rattle.std.specs.List.{AllByRecursion, AllByRecursion-prop};
 ghost use Rattle.std.proofs.Props.{props};
-ghost use Rattle.zr_frame.specs.Packing.{parcels};
+ghost use Rattle.zr_frame_pack.specs.Marks.{IsLater};
+ghost use Rattle.zr_frame_pack.specs.Packing.{parcels_of};
+ghost use Rattle.zr_frame_pack.specs.Writable.{IsWritable};
 ghost use Rattle.zr_router_queue.specs.Tables.{may_drop, is_droppable};
 ghost use Rattle.zr_node_spec.specs.Event.{on_link};
-ghost use Rattle.zr_router_queue.specs.Batches.{batches_in, bytes_on};
+ghost use Rattle.zr_router_queue.specs.Batches.{batches_in, written_of};
 
 use crate::link_batches::Batches;
-use crate::pack::{Packed, pack};
+use crate::pack::pack;
+use crate::scratch::Scratch;
 use std::alloc::{AllocError, Global};
-use std::marker::Model;
 use zr_bytes::ByteString;
-use zr_frame::Outbox;
+use zr_frame_pack::NamingOutbox;
 use zr_id::link::LinkNo;
 use zr_msg::msg::Msg;
 use zr_msg::shared::Shared;
@@ -21,41 +23,34 @@ use zr_msg::shared::Shared;
 /// The bit of a quality of service that asks not to drop the sample (Zenoh protocol 1.0, "QoS").
 const DONT_DROP: u64 = 0x08;
 
-/// What an event has for one link: its batches, and the outbox behind them.
+/// What an event has for one link: its batches, and whether it may be left out. The outbox of the link stands behind them meanwhile.
 #[derive(Drop)]
 pub(crate) struct Plan {
     pub batches: Batches,
-    pub outbox: Outbox,
     pub droppable: bool,
     ghost short: { AllByRecursion (λ b. length b ≤ 65535) (batches_in batches) } by { AllByRecursion-prop (λ b. length b ≤ 65535) (λ b. Prim.hlevel props) (batches_in batches) },
 }
 
-impl Model for Plan {
-    ghost use Rattle.zr_router_queue.specs.Batches.{batches_in};
-    ghost use Rattle.zr_router_queue.specs.Ends.{PlanState};
-
-    ghost Value = { PlanState };
-
-    ghost view = { λ p. record { parcels = record { batches = batches_in p.batches; outbox = p.outbox }; droppable = p.droppable } };
-}
-
 impl Plan {
-    /// The plan for a link among all that was sent and what was written of it. The memory of `head` is used.
+    /// The plan for a link among all that was sent and what was written of it.
     pub fn of(
         alloc: Global,
         sent: &[(LinkNo, Msg)],
         written: &[(LinkNo, Shared<ByteString>)],
         link: LinkNo,
-        outbox: Outbox,
-        head: &mut Vec<u8>,
+        outbox: &mut NamingOutbox,
+        scratch: &mut Scratch,
     ) -> Result<Plan, AllocError>
-        ensures parcels { IfOk result (λ p. p.parcels ≡ parcels outbox (bytes_on link written.now)) }
+        requires writable { All (λ x. IsWritable x.1) sent.now }
+        requires written { written.now ≡ written_of sent.now }
+        ensures batches { IfOk result (λ p. batches_in p.batches ≡ (parcels_of outbox.old (on_link link sent.now)).batches) }
+        ensures outbox { OnOk result (outbox.new ≡ (parcels_of outbox.old (on_link link sent.now)).outbox) }
+        ensures later { IsLater outbox.old.names outbox.new.names }
         ensures droppable { IfOk result (λ p. p.droppable ≡ is_droppable (on_link link sent.now)) }
     {
-        let Packed { batches, outbox } = pack(alloc, written, link, outbox, head)?;
+        let batches = pack(alloc, sent, written, link, outbox, scratch)?;
         Ok(Plan {
             batches,
-            outbox,
             droppable: is_droppable(sent, link),
         })
     }

@@ -3,6 +3,7 @@ use Rattle.std.proofs.Common.{arith, ◌≡◌, ℕ, ◌+◌, ◌-◌, ◌^◌, 
 use Rattle.std.specs.Prelude.{OnOk, OnErr, IfErr, min}
 use Rattle.zr_admin.specs.Inner.{IsOpened, IsUnopened}
 use Rattle.zr_admin.specs.declared.error.AdminError.{AdminError}
+use Rattle.zr_admin.specs.declared.error.AdminError.TheVariants as error
 use Rattle.zr_id.specs.declared.link.LinkNo.{LinkNo}
 use Rattle.zr_link_job.proofs.Starting.{tells_none}
 use Rattle.zr_link_job.specs.Starts.{Tells}
@@ -15,7 +16,7 @@ use Rattle.zr_outside.specs.Counts.{Rose}
 use Rattle.zr_outside.specs.Told.{Appends, AppendsPrefix}
 use Rattle.zr_outside.specs.declared.host.Call.{Call}
 use Rattle.zr_outside_crew.specs.Told.{with_last}
-use Rattle.zr_port.specs.Coming.{Sight}
+use Rattle.zr_port.specs.Coming.{Answering, Sight}
 use Rattle.zr_port.specs.declared.entry.Entry.{Entry}
 use Rattle.zr_port.specs.declared.error.DeliverError.{DeliverError}
 use Rattle.zr_port.specs.declared.error.DownError.{DownError}
@@ -135,6 +136,14 @@ cause_by (Err x) f g why = (λ it. not_done x it why.0, λ it. not_host x it why
 
 -- ---- by what opening it answers
 
+-- whatever was asked as it was taken down again
+any_call : (refuses_up : List Entry → PeerState → UpError → Type 0) (refuses_message : List Entry → LinkNo → Msg → DeliverError → Type 0) (refuses_down : List Entry → LinkNo → DownError → Type 0)
+    (called : Answering) (id : List ℕ) (word : ℕ) (e : AdminError) (a b : Sight) → IsUnopened refuses_up refuses_message refuses_down called id word e a b
+    → IsUnopened refuses_up refuses_message refuses_down (λ l reason was now answer. Unit {0}) id word e a b
+any_call refuses_up refuses_message refuses_down called id word (error.Up e) a b h = h
+any_call refuses_up refuses_message refuses_down called id word (error.Deliver e) a b h = (h.0, h.1, h.2, (h.3.0, h.3.1, h.3.2, (h.3.3.0, tt, h.3.3.2)))
+any_call refuses_up refuses_message refuses_down called id word error.NoMemory a b h = h
+
 module _ {V : Type 0} (up : V → List Entry → PeerState → UpError → Type 0) (message : V → List Entry → LinkNo → Msg → DeliverError → Type 0)
     (down : V → List Entry → LinkNo → DownError → Type 0) (id : List ℕ) (word : ℕ) (v w : V) (old h m : List Entry) (port : w ≡ v) (split : h ≡ old) (none : m ≡ []) where
   abbrev first : Sight
@@ -152,13 +161,14 @@ module _ {V : Type 0} (up : V → List Entry → PeerState → UpError → Type 
         (subst (λ (s : Sight). IsOpened (λ s x e. up w s x e) (λ s x e. message w s link x e) id word link s new) is_first opened),
   )
 
-  pub refuses_space : (e : AdminError) (new : Sight) → is_spent e ≡ false
-      → IsUnopened (λ s p x. up w s p x) (λ s l x y. message w s l x y) (λ s l x. down w s l x) id word e (record { seen = h; mine = m }) new
+  pub refuses_space : (called : V → Answering) (e : AdminError) (new : Sight) → is_spent e ≡ false
+      → IsUnopened (λ s p x. up w s p x) (λ s l x y. message w s l x y) (λ s l x. down w s l x) (called w) id word e (record { seen = h; mine = m }) new
       → RefusesSpace (λ s p x. up v s p x) (λ s l x y. message v s l x y) (λ s l x. down v s l x) old id word
-  refuses_space e new not_spent unopened = (
+  refuses_space called e new not_spent unopened = (
     e,
     new,
     not_spent,
-    subst (λ p. IsUnopened (λ s q x. up p s q x) (λ s l x y. message p s l x y) (λ s l x. down p s l x) id word e (record { seen = old; mine = [] }) new) port
-        (subst (λ (s : Sight). IsUnopened (λ s q x. up w s q x) (λ s l x y. message w s l x y) (λ s l x. down w s l x) id word e s new) is_first unopened),
+    any_call (λ s q x. up v s q x) (λ s l x y. message v s l x y) (λ s l x. down v s l x) (called v) id word e (record { seen = old; mine = [] }) new
+        (subst (λ p. IsUnopened (λ s q x. up p s q x) (λ s l x y. message p s l x y) (λ s l x. down p s l x) (called p) id word e (record { seen = old; mine = [] }) new) port
+        (subst (λ (s : Sight). IsUnopened (λ s q x. up w s q x) (λ s l x y. message w s l x y) (λ s l x. down w s l x) (called w) id word e s new) is_first unopened)),
   )

@@ -116,4 +116,4 @@ is_spent error.NoMemory = true
 -- the router refused it, or what it declares, for another cause than memory
 abbrev pub RefusesSpace : (List Entry → PeerState → UpError → Type 0) → (List Entry → LinkNo → Msg → DeliverError → Type 0) → (List Entry → LinkNo → DownError → Type 0) → List Entry → List ℕ → ℕ → Type 0
 RefusesSpace refuses_up refuses_message refuses_down seen id word =
-    (e : AdminError) × (new : Sight) × (is_spent e ≡ false) × IsUnopened refuses_up refuses_message refuses_down id word e (record { seen = seen; mine = [] }) new
+    (e : AdminError) × (new : Sight) × (is_spent e ≡ false) × IsUnopened refuses_up refuses_message refuses_down (λ l reason was now answer. Unit {0}) id word e (record { seen = seen; mine = [] }) new

@@ -4,6 +4,7 @@ use Rattle.std.specs.Prelude.{nat_le, bit_and, if◌then◌else◌}
 use Rattle.zr_bytes.specs.Flag.{has_id}
 use Rattle.zr_bytes.specs.Reading.{Read, ◌>>=◌, byte_of}
 use Rattle.zr_format_spec.specs.Writing.{writes_header}
+use Rattle.zr_wirekey.specs.Laws.{NamesAreHeard}
 use Rattle.zr_wirekey.specs.Scopes.{Texts}
 use Rattle.zr_msg.specs.declared.msg.Msg.{Msg}
 use Rattle.zr_msg.specs.declared.msg.Msg.TheVariants.{Sub, Unsub, Token, Untoken, Able, Unable, Interest, EndInterest, ToldSub, ToldAble, ToldUnsub, ToldToken, ToldUntoken, ToldUnable, ToldEnd, Push, Request, Response, Final, State, Step, Snap}
@@ -13,7 +14,7 @@ use Rattle.zr_decl.specs.declared.declared.Declared.{Declared}
 use Rattle.zr_decl.specs.declared.declared.Declared.TheVariants.{Told}
 use Rattle.zr_decl.specs.Laws.{WrittenDeclarationsAreRead, WrittenInterestsAreRead}
 use Rattle.zr_decl.specs.Reading.{message_of, interest_of, asked_of}
-use Rattle.zr_net.specs.Laws.{WrittenNetIsRead}
+use Rattle.zr_net.specs.Laws.{WrittenNetIsRead, WrittenNamesAreRead}
 use Rattle.zr_net.specs.Reading.{net_of, behind_of, declared_of, told_of}
 use Rattle.zr_net.specs.Writing as net
 use Rattle.zr_oam.specs.Laws.{WrittenOamIsRead}
@@ -32,12 +33,14 @@ use Rattle.zr_session.specs.Course.{gives}
 use Rattle.zr_session.specs.Step.{on_carried}
 use Rattle.zr_session.specs.Sending.{MayBeSent}
 
--- what is written in each format is read again
+-- what is written in each format is read again, and the numbers that are given are known
 pub record AreRead : Type 0 where
   pub net : WrittenNetIsRead
   pub declarations : WrittenDeclarationsAreRead
   pub interests : WrittenInterestsAreRead
   pub oam : WrittenOamIsRead
+  pub names : WrittenNamesAreRead
+  pub known : NamesAreHeard
 
 -- The bytes are read back as the message, whatever follows them, and it is given.
 pub record IsHeard (role : Role) (m : Msg) (bytes : List ℕ) : Type 0 where

@@ -6,4 +6,5 @@ pub mod Feeding
 pub mod Quiet
 pub mod Calls
 pub mod Heard
+pub mod Taken
 pub mod Packed

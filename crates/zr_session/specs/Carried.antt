@@ -24,7 +24,7 @@ between_routers_of bytes = do
   m ← oam_of bytes
   Ok (BetweenRouters m.0, m.1)
 
--- this end declares no numbers
+-- numbers of this end are not taken from the peer
 unfoldable pub network_of : Role → Texts → List ℕ → Read Carried
 network_of role keys bytes = do
   d ← net_of role keys [] bytes

@@ -19,7 +19,7 @@ use Rattle.zr_session.specs.Course.{Course, owed_in}
 use Rattle.zr_session.specs.Step.{established}
 use Rattle.zr_session.specs.Stream.{Comes}
 use Rattle.zr_session.specs.Session.{SessionState, begun, Feeds, Answers, fate_of, close_between, with_confirmed, owed_bytes, ticked}
-use Rattle.zr_session.specs.Sending.{MayBeSent, packed_in, outbox_of_peer, hearing, with_messages}
+use Rattle.zr_session.specs.Sending.{MayBeSent, AreNames, packed_in, outbox_of_peer, hearing, with_messages}
 
 -- All bytes come to a course, and to one alone.
 pub record BytesHaveOneCourse : Type 0 where
@@ -71,12 +71,16 @@ NoCutMatters = (first : Expected) (o : OpeningState) (now : ℕ) (calls : List C
     (c : Course) × (rest : List ℕ) × Comes o (Opening first) (fed_by calls) c rest × AreThoseOf c last events bytes
 
 -- Behind whole bytes that established a session, the batches of messages that the peer may send come to exactly these messages, in order, and to
--- no end, in however many calls they were packed. The session then expects what the outbox behind them sends, so this holds of more messages again.
+-- no end, in however many calls they were packed. The session then expects what the outbox behind them sends, and knows the numbers that it has given, so this
+-- holds of more messages again.
 pub record PackedMessagesAreReadBack : Type 0 where
-  -- a session that has just opened expects what its peer packs first
-  pub at_first : (o : Opened) → established o ≡ hearing (established o) (outbox_of_peer o)
+  -- a session that has just opened expects what its peer packs first, which has given no number
+  pub at_first : (o : Opened) → (established o ≡ hearing (established o) (outbox_of_peer o)) × AreNames (outbox_of_peer o).names
   pub read_back : (first : Expected) (o : OpeningState) (bytes : List ℕ) (c : Course) (s : session.Established) (box : OutboxState) (calls : List (List Msg)) →
-      IsOutbox box → Comes o (Opening first) bytes c [] → c.ends ≡ None → c.phase ≡ Established (hearing s box) →
+      IsOutbox box → AreNames box.names → Comes o (Opening first) bytes c [] → c.ends ≡ None → c.phase ≡ Established (hearing s box) →
       AllByRecursion (λ m. MayBeSent s.role m) (flat_map (λ messages. messages) calls) →
       Comes o (Opening first) (bytes ++ flat_map (λ batch. framed batch) (packed_in box calls).batches)
       (with_messages c s (packed_in box calls).outbox (flat_map (λ messages. messages) calls)) []
+  -- what is said of the outbox holds of the one behind them
+  pub behind : (box : OutboxState) (calls : List (List Msg)) → IsOutbox box → AreNames box.names →
+      IsOutbox (packed_in box calls).outbox × AreNames (packed_in box calls).outbox.names

@@ -1,15 +1,16 @@
-//! Keys on the wire: how they are read and refused by scopes, how scopes are limited, and how a key is written.
+//! Keys on the wire: how they are read and refused by scopes, how scopes are limited, and how a key and its number are written.
 
 use crate::row::{self, Fault, Steps};
 use std::alloc::{AllocError, Global};
 use zr_bytes::{Cursor, ReadError};
 use zr_key::key::KeyExpr;
-use zr_wirekey::{Scopes, read_key, write_key};
+use zr_wirekey::{Scopes, read_key, write_key, write_name};
 
 pub fn answer(alloc: Global, words: &[&str]) -> Result<String, Fault> {
     match row::word(words, 0) {
         "read" => read(alloc, words),
         "written" => written(alloc, words),
+        "name" => row::or_fault(name(alloc, words)),
         "scopes" => row::run(alloc, Scopes::new(alloc), row::behind(words, 1)),
         _ => Err(Fault::Row),
     }
@@ -64,6 +65,17 @@ fn written(alloc: Global, words: &[&str]) -> Result<String, Fault> {
 fn written_of(alloc: Global, key: &KeyExpr, number: u16) -> Result<String, AllocError> {
     let mut out = Vec::new(alloc);
     write_key(&mut out, key, number)?;
+    row::digits(alloc, &out)
+}
+
+// The declaration of `a/b` under 1, under 300, or of no bytes under 1.
+fn name(alloc: Global, words: &[&str]) -> Result<String, AllocError> {
+    let mut out = Vec::new(alloc);
+    match row::word(words, 1) {
+        "1" => write_name(&mut out, 1, b"a/b")?,
+        "300" => write_name(&mut out, 300, b"a/b")?,
+        _ => write_name(&mut out, 1, b"")?,
+    }
     row::digits(alloc, &out)
 }
 

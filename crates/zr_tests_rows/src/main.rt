@@ -21,6 +21,7 @@ mod matches;
 mod messages;
 mod numbers;
 mod openings;
+mod parcels;
 mod pending;
 mod pieces;
 mod row;
@@ -67,6 +68,7 @@ fn answer(alloc: Global, name: &str, words: &[&str]) -> Result<String, Fault> {
         "index" => indexes::answer(alloc, words),
         "rules" => rules::answer(alloc, words),
         "key" => keys::answer(alloc, words),
+        "parcels" => parcels::answer(alloc, words),
         "transport" => transport::answer(alloc, words),
         "message" => messages::answer(alloc, words),
         "again" => again::answer(alloc, words),

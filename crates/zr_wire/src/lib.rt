@@ -5,4 +5,4 @@ mod roles;
 mod writing;
 
 pub use roles::admits;
-pub use writing::write_message;
+pub use writing::{key_in, write_message, write_numbered};

@@ -39,12 +39,14 @@ read_again : (named : Bool) (texts : Texts) (scope suffix key bytes : List ℕ) 
 read_again named texts scope suffix key bytes parts is =
     ((scope, suffix), bytes, [], sym (append-nil bytes), parts, allows_spelled (or_bad_key (read_key (scope ++ suffix))) (λ k. gives k) key key [] (ap or_bad_key is) (refl, refl))
 
+-- scope 0 and the text as the suffix
+pub parts_are_read : (texts : Texts) (text : List ℕ) → length text ≤ 2048 → (key_parts true texts).spelled ([], text) (writes 0 ++ writes_text text)
+parts_are_read texts text le =
+    let behind : (suffix true).spelled text (writes_text text) = (omega arith, (writes (length text), written_spells 8 (length text), refl)) in
+    (0, writes 0, writes_text text, refl, (omega arith, written_spells 8 0), (text, writes_text text, [], sym (append-nil (writes_text text)), behind, (refl, refl)))
+
 pub whole_is_read : (texts : Texts) (key : List ℕ) → length key ≤ 2048 → read_key key ≡ Ok key → (key_format true texts).spelled key (writes_key key 0)
-whole_is_read texts key le same =
-    let behind : (suffix true).spelled key (writes_text key) = (omega arith, (writes (length key), written_spells 8 (length key), refl)) in
-    let parts : (key_parts true texts).spelled ([], key) (writes 0 ++ writes_text key) =
-    (0, writes 0, writes_text key, refl, (omega arith, written_spells 8 0), (key, writes_text key, [], sym (append-nil (writes_text key)), behind, (refl, refl))) in
-    read_again true texts [] key key (writes 0 ++ writes_text key) parts same
+whole_is_read texts key le same = read_again true texts [] key key (writes 0 ++ writes_text key) (parts_are_read texts key le) same
 
 pub number_is_read : (texts : Texts) (key : List ℕ) (number : ℕ) → 0 < number → number < 2 ^ 16 → text_at texts number ≡ Some key → read_key key ≡ Ok key → (key_format false texts).spelled key (writes_key key number)
 number_is_read texts key number positive small stands same =

@@ -1,5 +1,7 @@
 -- Numbered keys (Zenoh protocol 1.0, "WireExpr"): a number that stands for a text, and a suffix behind it where the key is named.
-use Rattle.std.specs.Prelude.{ℕ, ◌-◌, ◌^◌, Bool, List, [], ◌++◌, Option, Some, None, Result, Ok, Err}
+use Rattle.std.specs.Prelude.{◌≡◌, ℕ, ◌-◌, ◌^◌, Bool, List, [], ◌++◌, Option, Some, None, Result, Ok, Err}
+use Rattle.std.specs.Coded.{Unit-prop}
+use Rattle.std.proofs.Props.{props}
 use Rattle.zr_bytes.specs.declared.read_error.ReadError.{ReadError}
 use Rattle.zr_bytes.specs.declared.read_error.ReadError.TheVariants.{BadKey, UnknownScope}
 use Rattle.zr_format_spec.specs.Format.{Format, gives, choose, ◌then◌, ◌allows◌, below, text}
@@ -30,3 +32,13 @@ or_bad_key (Err e) = Err BadKey
 -- a key: the expression that the text and the suffix together are read as
 abbrev pub key_format : Bool → Texts → Format (List ℕ)
 key_format named texts = key_parts named texts then λ parts. or_bad_key (read_key (parts.0 ++ parts.1)) allows λ key. gives key
+
+-- the expression, if there is one, is the one that the text is read as
+abbrev pub IsReadAs : List ℕ → Option (List ℕ) → Type 0
+IsReadAs text None = Unit {0}
+IsReadAs text (Some key) = read_key text ≡ Ok key
+
+-- it is so or not, in one way
+pub IsReadAs-prop : (text : List ℕ) (key : Option (List ℕ)) → IsProp (IsReadAs text key)
+IsReadAs-prop text None = Unit-prop
+IsReadAs-prop text (Some key) = Prim.hlevel props

@@ -1,6 +1,6 @@
 //! The laws of numbered keys, over their definitions alone.
 
-ghost use Rattle.zr_wirekey.specs.Laws.{KeysAreRead, KeysHaveOneReading, WrittenKeysAreRead};
+ghost use Rattle.zr_wirekey.specs.Laws.{KeysAreRead, KeysHaveOneReading, NamesAreHeard, WrittenKeysAreRead};
 
 /// A key is read exactly where the bytes begin with one, and refused exactly for its first fault.
 pub fn keys_are_read()
@@ -15,4 +15,9 @@ pub fn keys_have_one_reading()
 /// What is written is read again.
 pub fn written_keys_are_read()
     ensures { WrittenKeysAreRead }
+{}
+
+/// What the sender has given numbers, the receiver of its declarations knows.
+pub fn names_are_heard()
+    ensures { NamesAreHeard }
 {}

@@ -2,11 +2,14 @@
 #![tactic(auto)]
 
 mod laws;
+mod names;
 mod reading;
 mod scopes;
+mod text;
 mod writing;
 
-pub use laws::{keys_are_read, keys_have_one_reading, written_keys_are_read};
+pub use laws::{keys_are_read, keys_have_one_reading, names_are_heard, written_keys_are_read};
+pub use names::{MOST_NAMES, Names};
 pub use reading::{read_key, read_parts};
 pub use scopes::{ScopeError, Scopes};
 pub use writing::{write_key, write_name};

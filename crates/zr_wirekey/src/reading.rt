@@ -1,6 +1,6 @@
 //! Reading a numbered key.
 
-ghost use Rattle.std.specs.Prelude.{◌≡◌, ◌++◌, if◌then◌else◌};
+ghost use Rattle.std.specs.Prelude.{◌≡◌, ◌++◌, false, if◌then◌else◌};
 ghost use Rattle.zr_bytes.specs.Reading.{Keeps, Steps};
 ghost use Rattle.zr_key.specs.Key.{read_key};
 ghost use Rattle.zr_wirekey.specs.Scopes.{text_at};
@@ -30,10 +30,43 @@ pub fn read_key(
 {
     let scopes = if sender { theirs } else { ours };
     let mut ahead = c.fork();
-    let (scope, suffix) = read_parts(&mut ahead, named, scopes)?;
-    let key = key(alloc, scope, suffix)?;
+    let key = if named {
+        spelled(alloc, &mut ahead, true, scopes)?
+    } else {
+        bare(alloc, &mut ahead, scopes)?
+    };
     *c = ahead;
     Ok(key)
+}
+
+// A scope alone. A text that is an expression by itself was read when it was declared.
+#[tactic(auto, unfolding(crate::specs::Reading::key_of, crate::specs::Reading::parts_of))]
+fn bare(alloc: Global, c: &mut Cursor<'_>, scopes: &Scopes) -> Result<KeyExpr, ReadError>
+    ensures { Steps (λ key. key) result (key_of false scopes.now c.old) c.new }
+{
+    let mut behind = c.fork();
+    let number = behind.z16()?;
+    match scopes.key(number) {
+        Some(key) => {
+            *c = behind;
+            Ok(key.copy(alloc)?)
+        }
+        None => spelled(alloc, c, false, scopes),
+    }
+}
+
+// A scope and a suffix, where the key is named.
+#[tactic(auto, unfolding(crate::specs::Reading::key_of))]
+fn spelled(
+    alloc: Global,
+    c: &mut Cursor<'_>,
+    named: bool,
+    scopes: &Scopes,
+) -> Result<KeyExpr, ReadError>
+    ensures { Steps (λ key. key) result (key_of named scopes.now c.old) c.new }
+{
+    let (scope, suffix) = read_parts(c, named, scopes)?;
+    key(alloc, scope, suffix)
 }
 
 /// The text of a scope, and the suffix where the key is named: together they need not be an expression. After a refusal the cursor may

@@ -1,14 +1,16 @@
 //! The texts that one side of a session declared, by their numbers.
 
-ghost use Rattle.std.specs.Prelude.{◌≡◌, ◌<◌, ◌↔◌, OnOk, OnErr, [], option_copied, option_map, unwrap_or, length};
+ghost use Rattle.std.specs.Prelude.{◌≡◌, ◌<◌, ◌↔◌, ℕ, List, OnOk, OnErr, IfSome, [], Some, Ok, option_copied, option_map, unwrap_or, length};
 ghost use Rattle.std.specs.Map.{lookup};
+ghost use Rattle.zr_key.specs.Key.{read_key};
 ghost use Rattle.zr_wirekey.specs.Scopes.{Texts, is_number, text_at, declared, undeclared, bytes_of};
 
+use crate::text::Text;
 use std::alloc::{AllocError, AllocFailed, Global};
 use std::collections::BTreeMap;
 use std::marker::Model;
 use thiserror::Error;
-use zr_bytes::ByteString;
+use zr_key::key::KeyExpr;
 
 /// How many bytes the texts of one side have at most, together (this profile's limit).
 pub const MOST_BYTES: usize = 1_048_576;
@@ -48,7 +50,7 @@ impl<T: Drop> From<AllocFailed<T>> for ScopeError {
 #[derive(Drop)]
 pub struct Scopes {
     alloc: Global,
-    texts: BTreeMap<u16, ByteString>,
+    texts: BTreeMap<u16, Text>,
     // how many bytes the texts have together
     bytes: usize,
 }
@@ -85,6 +87,16 @@ impl Scopes {
         Some(self.texts.get(&number)?.as_slice())
     }
 
+    /// The expression that the text of a number is by itself, if it is one.
+    pub fn key(&self, number: u16) -> Option<&KeyExpr>
+        ensures { IfSome result (λ key. (text : List ℕ) × (text_at self.now number ≡ Some text) × (read_key text ≡ Ok key.now)) }
+    {
+        if number == 0 {
+            return None;
+        }
+        self.texts.get(&number)?.key()
+    }
+
     /// Declares a text under a number, in the place of an earlier one. A refusal changes nothing.
     pub fn declare(&mut self, number: u16, text: &[u8]) -> Result<(), ScopeError>
         ensures ok { OnOk result (self.new ≡ declared self.old number text.now) }
@@ -95,7 +107,7 @@ impl Scopes {
         if bytes > MOST_BYTES {
             return Err(ScopeError::Limit);
         }
-        let text = ByteString::from_slice(self.alloc, text)?;
+        let text = Text::new(self.alloc, text)?;
         self.texts.insert(number, text)?;
         self.bytes = bytes;
         Ok(())
@@ -112,7 +124,7 @@ impl Scopes {
 }
 
 /// How many bytes the text of a number has, if it has one.
-fn length_at(texts: &BTreeMap<u16, ByteString>, number: u16) -> usize
+fn length_at(texts: &BTreeMap<u16, Text>, number: u16) -> usize
     ensures { result ≡ unwrap_or (option_map (λ text. length text) (lookup (is_number number) texts.now.entries)) 0 }
 {
     match texts.get(&number) {

@@ -22,5 +22,5 @@ pub returns-in-Err-declare-clause-unopened : goal.returns-in-Err-declare-clause-
 returns-in-Err-declare-clause-unopened g c =
     unopened (λ h p e. g.P.Port.refuses_up c.args.port.now h p e) c.args.id.now c.in-Ok.key c.args.word c.in-Ok-up.up.0 c.inner_peer.result c.inner_outbox.result
     (λ before. IsLeastFree (λ l. g.P.Port.is_up c.args.port.now before l) c.in-Ok-up.up.0) (λ h l m e. g.P.Port.refuses_message c.args.port.now h l m e)
-    (λ h l e. g.P.Port.refuses_down c.args.port.now h l e) c.in-Err-declare.e c.args.pass.now c.up.new.pass c.declare.new.pass
+    (λ h l e. g.P.Port.refuses_down c.args.port.now h l e) (g.P.Port.answers_down c.args.port.now) c.in-Err-declare.e c.args.pass.now c.up.new.pass c.declare.new.pass
     c.inner_peer.ensures c.inner_outbox.ensures c.in-Ok.ensures c.in-Ok-up.ensures.added c.in-Err-declare.ensures.refused

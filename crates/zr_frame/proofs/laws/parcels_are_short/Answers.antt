@@ -1,5 +1,4 @@
 use Rattle.std.proofs.Common.{None}
-use Rattle.zr_frame.specs.Packing.{packed}
 use Rattle.zr_frame.proofs.Lengths.{good_packed}
 use Rattle.zr_frame.proofs.laws.parcels_are_short.Goals as goal
 

@@ -11,4 +11,4 @@ returns-in-Ok-open-clause-opened g c =
 pub returns-in-Err-clause-refused : goal.returns-in-Err-clause-refused
 returns-in-Err-clause-refused g c = λ it.
     refuses_space (λ v h p e. g.P.Port.refuses_up v h p e) (λ v h l m e. g.P.Port.refuses_message v h l m e) (λ v h l e. g.P.Port.refuses_down v h l e) c.args.id c.args.word
-    _ _ _ _ _ c.in-Ok.ensures c.split-pass.ensures.new.0 c.split-pass.ensures.new.1 c.in-Err.refused.0 (sight c.in-Err.refused.1) (c.cause_of.ensures (cc it)) c.in-Err.ensures.unopened
+    _ _ _ _ _ c.in-Ok.ensures c.split-pass.ensures.new.0 c.split-pass.ensures.new.1 (λ v. g.P.Port.answers_down v) c.in-Err.refused.0 (sight c.in-Err.refused.1) (c.cause_of.ensures (cc it)) c.in-Err.ensures.unopened

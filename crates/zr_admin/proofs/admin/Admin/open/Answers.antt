@@ -10,5 +10,5 @@ returns-in-Ok-clause-opened g c =
 
 pub returns-in-Err-clause-unopened : goal.returns-in-Err-clause-unopened
 returns-in-Err-clause-unopened g c =
-    subst (λ p. IsUnopened (λ h x e. g.P.Port.refuses_up p h x e) (λ h l m e. g.P.Port.refuses_message p h l m e) (λ h l e. g.P.Port.refuses_down p h l e) c.args.id c.args.word c.in-Err.e
+    subst (λ p. IsUnopened (λ h x e. g.P.Port.refuses_up p h x e) (λ h l m e. g.P.Port.refuses_message p h l m e) (λ h l e. g.P.Port.refuses_down p h l e) (g.P.Port.answers_down p) c.args.id c.args.word c.in-Err.e
     (sight c.args.pass) (sight c.enter.new.pass)) c.deref.ensures c.in-Err.ensures.unopened

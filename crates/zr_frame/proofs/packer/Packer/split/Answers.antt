@@ -1,7 +1,5 @@
 use Rattle.std.specs.Option.{option_copied}
-use Rattle.zr_frame.specs.Packing.{fragments}
-use Rattle.zr_frame.specs.Packer.{behind}
-use Rattle.zr_frame.proofs.Splitting.{IsSplitting, splits_on}
+use Rattle.zr_frame.proofs.Splitting.{splits_on}
 use Rattle.zr_frame.proofs.packer.Packer.split.Goals as goal
 
 pub pieces-preserved : goal.pieces-preserved

@@ -24,7 +24,7 @@ invariant_of-self-inside c =
                 c.self.inside.counted ∙ sym count,
                 (
                   sym free.kept,
-                  ((omega (arith, free.answer, c.self.inside.counted, c.self.inside.small)), tt),
+                  ((omega (arith, free.answer, c.self.inside.counted, c.self.inside.small)), (c.self.inside.alike, (c.self.inside.kept, tt))),
                 ),
               ),
             ),

@@ -11,7 +11,7 @@ invariant_of-self-inside c =
     let none = c.self.inside.ended ∙ none_too (λ d. d.asked) (λ d. Some 0) c.self.inside.closed (ap (λ e. e.queue.closed) c.self.view_is ∙ c.requires.open) in
     let ended = end_of_end (sent c.self.inside.giver) (sent c.end.new.self) (Some 0) c.args.note none c.end.ensures.given in
     let lacked : c.args.closing.free ≡ c.self.inside.free = c.requires.free ∙ sym (ap (λ e. e.free) c.self.view_is) in
-    (c.end.ensures.same.1, (ended, (ap (λ n. Some n) lacked, (c.end.ensures.same.0.1 ∙ c.self.inside.slots, (g.1, (counted, (c.self.inside.known ∙ sym c.end.ensures.free, (c.self.inside.small, tt))))))))
+    (c.end.ensures.same.1, (ended, (ap (λ n. Some n) lacked, (c.end.ensures.same.0.1 ∙ c.self.inside.slots, (g.1, (counted, (c.self.inside.known ∙ sym c.end.ensures.free, (c.self.inside.small, (c.self.inside.alike, (c.self.inside.kept, tt))))))))))
 
 pub returns : goal.returns
 returns c =

@@ -20,3 +20,14 @@ invariant_of-self c =
       few = omega arith;
       ordered = c.remove.ensures.ordered;
     }
+
+pub invariant_of-self-in-Some-2 : goal.invariant_of-self-in-Some-2
+invariant_of-self-in-Some-2 c =
+    let text : length_of c.self.inside.texts.entries c.args.number ≡ length c.in-Some.text =
+    ap (λ (o : Option (List ℕ)). unwrap_or (option_map (λ t. length t) o) 0) (sym c.remove.ensures.value ∙ c.in-Some.is) in
+    let same = ap (λ (texts : Texts). bytes_of texts) c.remove.ensures.entries in
+    record {
+      count = omega (arith, text, same, ap length c.as_slice.ensures, bytes_of-undeclared c.self.inside.texts.entries c.args.number);
+      few = omega arith;
+      ordered = c.remove.ensures.ordered;
+    }
