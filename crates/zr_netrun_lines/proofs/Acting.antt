@@ -1,5 +1,5 @@
 -- What one act has done, and why a run stops at a line, a run or an act: an error is out of memory, or the refusal that is said.
-use Rattle.std.proofs.Common.{◌≡◌, ℕ, List, [], ◌++◌, Option, Some, None, Result, Ok, Err, refl, sym, ap, ◌∙◌, ◌⊎◌, inl, inr, subst}
+use Rattle.std.proofs.Common.{◌≡◌, ℕ, ◌+◌, List, [], ◌++◌, Option, Some, None, Result, Ok, Err, refl, sym, ap, ◌∙◌, ◌⊎◌, inl, inr, subst}
 use Rattle.std.specs.Prelude.{is_none, true}
 use Rattle.std.specs.List.{flat_map}
 use Rattle.std.proofs.lemmas.Bool.{false≢true}
@@ -71,31 +71,31 @@ error_is_said e.Limit said h = inr h
 error_is_said e.NoMemory said h = inl refl
 
 -- so is that of an act
-error_of_act : (error : ScriptError) (said : Outcome) (old new : Living) (before after : List ReportLine) → Applies (Err error) said old new before after →
+error_of_act : (error : ScriptError) (said : Outcome) (applied : ℕ) (old new : Living) (before after : List ReportLine) → Applies (Err error) said applied old new before after →
     (error ≡ e.NoMemory) ⊎ (said ≡ Err error)
-error_of_act e.UnknownCommand said old new before after h = inr h.0
-error_of_act e.BadWords said old new before after h = inr h.0
-error_of_act e.UnknownName said old new before after h = inr h.0
-error_of_act e.NameTaken said old new before after h = inr h.0
-error_of_act e.BadKey said old new before after h = inr h.0
-error_of_act e.NotLinked said old new before after h = inr h.0
-error_of_act e.AlreadyLinked said old new before after h = inr h.0
-error_of_act e.NothingThere said old new before after h = inr h.0
-error_of_act e.NotAsked said old new before after h = inr h.0
-error_of_act e.NotSettled said old new before after h = inr h.0
-error_of_act e.NotSamples said old new before after h = inr h.0
-error_of_act e.NotJoined said old new before after h = inr h.0
-error_of_act e.Limit said old new before after h = inr h.0
-error_of_act e.NoMemory said old new before after h = inl refl
+error_of_act e.UnknownCommand said applied old new before after h = inr h.0
+error_of_act e.BadWords said applied old new before after h = inr h.0
+error_of_act e.UnknownName said applied old new before after h = inr h.0
+error_of_act e.NameTaken said applied old new before after h = inr h.0
+error_of_act e.BadKey said applied old new before after h = inr h.0
+error_of_act e.NotLinked said applied old new before after h = inr h.0
+error_of_act e.AlreadyLinked said applied old new before after h = inr h.0
+error_of_act e.NothingThere said applied old new before after h = inr h.0
+error_of_act e.NotAsked said applied old new before after h = inr h.0
+error_of_act e.NotSettled said applied old new before after h = inr h.0
+error_of_act e.NotSamples said applied old new before after h = inr h.0
+error_of_act e.NotJoined said applied old new before after h = inr h.0
+error_of_act e.Limit said applied old new before after h = inr h.0
+error_of_act e.NoMemory said applied old new before after h = inl refl
 
 -- ---- what was done, of an act or of a fan
 
 -- it was refused, or memory ran out at it
-pub done_stops : (k m : Kept) (said : Done) (world : Living) (before after : List ReportLine) (a : Option (List ℕ)) (error : ScriptError) →
-    Applies (Err error) said k.world world before after → m.number ≡ k.number → m.pending ≡ k.pending →
+pub done_stops : (k m : Kept) (said : Done) (applied : ℕ) (world : Living) (before after : List ReportLine) (a : Option (List ℕ)) (error : ScriptError) →
+    Applies (Err error) said applied k.world world before after → m.number ≡ k.number → m.pending ≡ k.pending →
     Stopped (stop_of error) (run_behind k said) k.pending m a a
-done_stops k m said world before after a error applies number pending =
-    stops_by error (run_behind k said) k.pending m a a (prefix_none (k.pending ++ (run_behind k said).text) a) (by (error_of_act error said k.world world before after applies))
+done_stops k m said applied world before after a error applies number pending =
+    stops_by error (run_behind k said) k.pending m a a (prefix_none (k.pending ++ (run_behind k said).text) a) (by (error_of_act error said applied k.world world before after applies))
   where
     by : (error ≡ e.NoMemory) ⊎ (said ≡ Err error) →
         (error ≡ e.NoMemory) ⊎ (((run_behind k said).refusal ≡ Some error) × (m.number ≡ (run_behind k said).number) × Written (k.pending ++ (run_behind k said).text) m.pending a a)
@@ -106,46 +106,47 @@ done_stops k m said world before after a error applies number pending =
         (refl, number, subst (λ (z : List ℕ). Written (k.pending ++ []) z a a) (sym pending) (nothing_said k.pending a)))
 
 -- an act that was done: its run has the world and the text of the report lines that came
-done_is : (k : Kept) (said : Done) (world : Living) (report : List ReportLine) (u : Unit {0}) → Applies (Ok u) said k.world world [] report →
-    (run_behind k said ≡ record { world = world.state; number = k.number; text = flat_map line_text report; refusal = None }) × (world ≡ alive world.state)
-done_is k said world report u applies = by said applies
+done_is : (k : Kept) (said : Done) (applied : ℕ) (world : Living) (report : List ReportLine) (u : Unit {0}) → Applies (Ok u) said applied k.world world [] report →
+    (run_behind k said ≡ record { world = world.state; number = k.number; text = flat_map line_text report; refusal = None }) × (world ≡ alive world.state world.applied)
+done_is k said applied world report u applies = by said applies
   where
-    by : (o : Outcome) → Applies (Ok u) o k.world world [] report →
-        (run_behind k o ≡ record { world = world.state; number = k.number; text = flat_map line_text report; refusal = None }) × (world ≡ alive world.state)
+    by : (o : Outcome) → Applies (Ok u) o applied k.world world [] report →
+        (run_behind k o ≡ record { world = world.state; number = k.number; text = flat_map line_text report; refusal = None }) × (world ≡ alive world.state world.applied)
     by (Ok x) h =
-        let there : world ≡ alive x.1 = h.0.0 in
+        let there : world ≡ alive x.1 applied = h.0.0 in
         let state : x.1 ≡ world.state = sym (ap (λ (w : Living). w.state) there) in
+        let count : applied ≡ world.applied = sym (ap (λ (w : Living). w.applied) there) in
         let lines : x.0 ≡ report = sym h.0.1 in
-        (λ i. record { world = state i; number = k.number; text = flat_map line_text (lines i); refusal = None }, there ∙ ap alive state)
+        (λ i. record { world = state i; number = k.number; text = flat_map line_text (lines i); refusal = None }, there ∙ (λ i. alive (state i) (count i)))
     by (Err error) h = absurd (false≢true h.1)
 
 -- what was done is a turn, where its text was written as far as it doesn't wait
-pub done_turns : (k m : Kept) (said : Done) (report : List ReportLine) (a b : Option (List ℕ)) (u : Unit {0}) → Applies (Ok u) said k.world m.world [] report →
+pub done_turns : (k m : Kept) (said : Done) (applied : ℕ) (report : List ReportLine) (a b : Option (List ℕ)) (u : Unit {0}) → Applies (Ok u) said applied k.world m.world [] report →
     m.number ≡ k.number → m.line ≡ k.line → Written (k.pending ++ flat_map line_text report) m.pending a b → IsAt (run_behind k said) k.line k.pending m a b
-done_turns k m said report a b u applies number line written =
-    let done = done_is k said m.world report u applies in
+done_turns k m said applied report a b u applies number line written =
+    let done = done_is k said applied m.world report u applies in
     subst (λ (r : Run). IsAt r k.line k.pending m a b) (sym done.0) (record { world = done.1; number = number; line_is = line; refusal = refl; text = written })
 
 -- a write failed behind it
-pub done_fails : (k : Kept) (said : Done) (world : Living) (report : List ReportLine) (a b : Option (List ℕ)) (u : Unit {0}) → Applies (Ok u) said k.world world [] report →
+pub done_fails : (k : Kept) (said : Done) (applied : ℕ) (world : Living) (report : List ReportLine) (a b : Option (List ℕ)) (u : Unit {0}) → Applies (Ok u) said applied k.world world [] report →
     AppendsPrefix (k.pending ++ flat_map line_text report) a b → AppendsPrefix (k.pending ++ (run_behind k said).text) a b
-done_fails k said world report a b u applies out =
-    subst (λ (r : Run). AppendsPrefix (k.pending ++ r.text) a b) (sym (done_is k said world report u applies).0) out
+done_fails k said applied world report a b u applies out =
+    subst (λ (r : Run). AppendsPrefix (k.pending ++ r.text) a b) (sym (done_is k said applied world report u applies).0) out
 
 -- ---- one act
 
 pub act_stops : (k m : Kept) (act : Act) (world : Living) (before after : List ReportLine) (a : Option (List ℕ)) (error : ScriptError) →
-    Applies (Err error) (outcome k.world.state k.number act) k.world world before after → m.number ≡ k.number → m.pending ≡ k.pending →
+    Applies (Err error) (outcome k.world.state k.number act) (k.world.applied + 1) k.world world before after → m.number ≡ k.number → m.pending ≡ k.pending →
     Stopped (stop_of error) (run_by k act) k.pending m a a
-act_stops k m act = done_stops k m (outcome k.world.state k.number act)
+act_stops k m act = done_stops k m (outcome k.world.state k.number act) (k.world.applied + 1)
 
-pub act_turns : (k m : Kept) (act : Act) (report : List ReportLine) (a b : Option (List ℕ)) (u : Unit {0}) → Applies (Ok u) (outcome k.world.state k.number act) k.world m.world [] report →
+pub act_turns : (k m : Kept) (act : Act) (report : List ReportLine) (a b : Option (List ℕ)) (u : Unit {0}) → Applies (Ok u) (outcome k.world.state k.number act) (k.world.applied + 1) k.world m.world [] report →
     m.number ≡ k.number → m.line ≡ k.line → Written (k.pending ++ flat_map line_text report) m.pending a b → IsAt (run_by k act) k.line k.pending m a b
-act_turns k m act = done_turns k m (outcome k.world.state k.number act)
+act_turns k m act = done_turns k m (outcome k.world.state k.number act) (k.world.applied + 1)
 
-pub act_fails : (k : Kept) (act : Act) (world : Living) (report : List ReportLine) (a b : Option (List ℕ)) (u : Unit {0}) → Applies (Ok u) (outcome k.world.state k.number act) k.world world [] report →
+pub act_fails : (k : Kept) (act : Act) (world : Living) (report : List ReportLine) (a b : Option (List ℕ)) (u : Unit {0}) → Applies (Ok u) (outcome k.world.state k.number act) (k.world.applied + 1) k.world world [] report →
     AppendsPrefix (k.pending ++ flat_map line_text report) a b → AppendsPrefix (k.pending ++ (run_by k act).text) a b
-act_fails k act = done_fails k (outcome k.world.state k.number act)
+act_fails k act = done_fails k (outcome k.world.state k.number act) (k.world.applied + 1)
 
 -- ---- texts that wait only where the report is written
 

@@ -163,14 +163,14 @@ on_booked k m steps u books counts = record {
 
 -- ---- an act
 
-pub act_counts : (k m : Kept) (act : Act) (report : List ReportLine) (u : Unit {0}) → Applies (Ok u) (outcome k.world.state k.number act) k.world m.world [] report →
+pub act_counts : (k m : Kept) (act : Act) (report : List ReportLine) (u : Unit {0}) → Applies (Ok u) (outcome k.world.state k.number act) (k.world.applied + 1) k.world m.world [] report →
     m.counts ≡ option_map (λ x. with_lines m.world.state.routers x report) k.counts → CountsOn (acts_by k (c.Act act)) k m
 act_counts k m act report u applies counts = record {
   mode = ap is_none counts ∙ same k.counts;
   goes = λ n is.
       let said : outcome k.world.state k.number act ≡ recounted k.world.state.booked (outcome n.world k.number act) =
       ap (λ w. outcome w k.number act) is.world_is ∙ outcome_recounted n.world k.world.state.booked k.number act in
-      by n is (outcome n.world k.number act) refl (subst (λ (o : Outcome). Applies (Ok u) o k.world m.world [] report) said applies);
+      by n is (outcome n.world k.number act) refl (subst (λ (o : Outcome). Applies (Ok u) o (k.world.applied + 1) k.world m.world [] report) said applies);
 }
   where
     same : (o : Option Counts) → is_none (option_map (λ x. with_lines m.world.state.routers x report) o) ≡ is_none o
@@ -198,7 +198,7 @@ act_counts k m act report u applies counts = record {
             ap (λ (w : WorldState). with_lines w.routers x report) state ∙ ap (with_lines y.1.routers x) lines ∙ ap (λ z. with_lines y.1.routers z y.0) h
             ∙ lines_counted n.world y.1.routers y.0 (counts_of n) (all_parts (is_known n.world) n.report y.0 (goes.known is.known)).1 ∙ ap all_capped together
 
-    by : (n : Moment) → IsCounted k n → (o : Outcome) → outcome n.world k.number act ≡ o → Applies (Ok u) (recounted k.world.state.booked o) k.world m.world [] report →
+    by : (n : Moment) → IsCounted k n → (o : Outcome) → outcome n.world k.number act ≡ o → Applies (Ok u) (recounted k.world.state.booked o) (k.world.applied + 1) k.world m.world [] report →
         (n' : Moment) × (fold onward (Some n) (acts_by k (c.Act act)) ≡ Some n') × IsCounted m n'
     by n is (Err e) eq h = absurd (false≢true h.1)
     by n is (Ok y) eq h =
@@ -271,12 +271,12 @@ kinds_counted : (routers : Routers) (said : List ReportLine) (t : Counts) → co
     with_kinds (all_capped t) (kinds_of routers said) ≡ all_capped (plus t (counts_in routers said))
 kinds_counted routers said t none = same_counts _ _ (omega arith) (omega arith) (omega arith) (omega (arith, none))
 
-pub fan_counts : (k m : Kept) (report : List ReportLine) (u : Unit {0}) → Applies (Ok u) (fan_step k.world.state k.number) k.world m.world [] report →
+pub fan_counts : (k m : Kept) (report : List ReportLine) (u : Unit {0}) → Applies (Ok u) (fan_step k.world.state k.number) k.world.applied k.world m.world [] report →
     m.counts ≡ option_map (λ x. with_lines m.world.state.routers x report) k.counts → CountsOn (acts_by k c.Fan) k m
 fan_counts k m report u applies counts = record {
   mode = ap is_none counts ∙ same k.counts;
   goes = λ n is. by n is (fan_step (with_booked n.world k.world.state.booked) k.number) refl
-      (subst (λ (o : Done). Applies (Ok u) o k.world m.world [] report) (ap (λ w. fan_step w k.number) is.world_is) applies);
+      (subst (λ (o : Done). Applies (Ok u) o k.world.applied k.world m.world [] report) (ap (λ w. fan_step w k.number) is.world_is) applies);
 }
   where
     same : (o : Option Counts) → is_none (option_map (λ x. with_lines m.world.state.routers x report) o) ≡ is_none o
@@ -316,7 +316,7 @@ fan_counts k m report u applies counts = record {
             ap (λ (w : WorldState). with_lines w.routers x report) state ∙ ap (with_lines y.1.routers x) lines ∙ ap (λ z. with_kinds z (kinds_of y.1.routers y.0)) h
             ∙ kinds_counted y.1.routers y.0 (counts_of n) none ∙ ap all_capped together
 
-    by : (n : Moment) → IsCounted k n → (o : Done) → fan_step (with_booked n.world k.world.state.booked) k.number ≡ o → Applies (Ok u) o k.world m.world [] report →
+    by : (n : Moment) → IsCounted k n → (o : Done) → fan_step (with_booked n.world k.world.state.booked) k.number ≡ o → Applies (Ok u) o k.world.applied k.world m.world [] report →
         (n' : Moment) × (fold onward (Some n) (acts_by k c.Fan) ≡ Some n') × IsCounted m n'
     by n is (Err e) eq h = absurd (false≢true h.1)
     by n is (Ok x) eq h =

@@ -14,7 +14,7 @@ use Rattle.zr_netrun_lines.specs.declared.runner.RunStop.{RunStop}
 use Rattle.zr_netrun_lines.specs.declared.runner.RunStop.TheVariants.{Refused, NoMemory, WriteFault}
 use Rattle.zr_netrun_lines.specs.Kept.{Kept, fresh, IsAt, Turns}
 use Rattle.zr_netrun_lines.proofs.Lines.{IsOpen, open_append, ended_at, open_at, ended_none, open_none}
-use Rattle.zr_netrun_lines.proofs.Writing.{turn_more, turn_stops, prefix_written}
+use Rattle.zr_netrun_lines.proofs.Writing.{turn_more, turn_stops, prefix_written, world_kept}
 
 -- nothing has been written since
 nothing_gone : (t : List ℕ) (a : Option (List ℕ)) → Written (t ++ []) t a a
@@ -24,7 +24,7 @@ nothing_gone t (Some held) = ([], append-nil t, ap Some (sym (append-nil held)))
 -- what is kept is a fresh run's
 pub start_at : (k : Kept) (a : Option (List ℕ)) → k.world.spent ≡ false → IsAt (fresh k) k.line k.pending k a a
 start_at k a alive = record {
-  world = λ i. record { state = k.world.state; spent = alive i };
+  world = λ i. record { state = k.world.state; applied = k.world.applied; spent = alive i };
   number = refl;
   line_is = refl;
   refusal = refl;
@@ -86,7 +86,7 @@ module _ (earlier : List ℕ) (goal_run : Run) (goal_open : List ℕ) (a : Optio
       let same : at.0 ≡ goal_run = sym (ap (fold on_line at.0) (ended_none (k.line ++ rest) joined)) ∙ at.2 in
       let left : k.line ++ rest ≡ goal_open = sym (open_none (k.line ++ rest) joined) ∙ at.3 in
       subst (λ (r : Run). IsAt r (take most_kept goal_open) earlier m a b) same (record {
-        world = ap (λ (z : Kept). z.world) ok ∙ at.1.world;
+        world = world_kept at.0.world k.world m.world (ap (λ (z : Kept). z.world) ok) at.1.world;
         number = ap (λ (z : Kept). z.number) ok ∙ at.1.number;
         line_is = ap (λ (z : Kept). z.line) ok ∙ ap (take most_kept) left;
         refusal = at.1.refusal;

@@ -11,3 +11,4 @@ pub mod Accepting
 pub mod Feeding
 pub mod Refusing
 pub mod Going
+pub mod Room

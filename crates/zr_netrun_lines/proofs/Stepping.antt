@@ -43,10 +43,10 @@ counted k = record { world = k.world; number = k.number + 1; line = k.line; pend
 -- a line that asks nothing is only counted
 pub silent_turns : (k m : Kept) (line : List ℕ) (a : Option (List ℕ)) → k.world.spent ≡ false → command_of line ≡ Ok None → m ≡ counted k →
     IsAt (on_line (fresh k) line) k.line k.pending m a a
-silent_turns k m line a alive silent same =
+silent_turns k m line a living silent same =
     let run : on_line (fresh k) line ≡ fresh (counted k) = ap (commanded (fresh k)) silent in
     subst (λ (r : Run). IsAt r k.line k.pending m a a) (sym run) (subst (λ (z : Kept). IsAt (fresh (counted k)) k.line k.pending z a a) (sym same) (record {
-      world = λ i. record { state = k.world.state; spent = alive i };
+      world = λ i. record { state = k.world.state; applied = k.world.applied; spent = living i };
       number = refl;
       line_is = refl;
       refusal = refl;
@@ -102,7 +102,7 @@ fan_line_turns k n m line a b result asks same turn =
 pub end_turns : (k m : Kept) (said : ReportLine) (a b : Option (List ℕ)) → k.world.spent ≡ false → m.world ≡ k.world → m.number ≡ k.number → m.line ≡ k.line →
     Written (k.pending ++ line_text said) m.pending a b → IsAt (run_behind k (Ok (said ∷ [], k.world.state))) k.line k.pending m a b
 end_turns k m said a b living world number line written = record {
-  world = world ∙ (λ i. record { state = k.world.state; spent = living i });
+  world = world ∙ (λ i. record { state = k.world.state; applied = (sym (ap (λ (w : Living). w.applied) world)) i; spent = living i });
   number = number;
   line_is = line;
   refusal = refl;
@@ -117,7 +117,7 @@ end_fails k said a b out = subst (λ (z : List ℕ). AppendsPrefix (k.pending ++
 -- ---- a run
 
 -- steps that could be counted were counted
-counts : (said : Result WorldState ScriptError) (old new : Living) (u : Unit {0}) → Books (Ok u) said old new → (w : WorldState) × (said ≡ Ok w) × (new ≡ alive w)
+counts : (said : Result WorldState ScriptError) (old new : Living) (u : Unit {0}) → Books (Ok u) said old new → (w : WorldState) × (said ≡ Ok w) × (new ≡ alive w old.applied)
 counts (Ok w) old new u h = (w, refl, h.0)
 counts (Err e) old new u h = absurd (false≢true h.1)
 
@@ -227,7 +227,7 @@ module _ (k0 : Kept) (steps : ℕ) (a : Option (List ℕ)) where
       m ≡ record { world = m.world; number = k0.number; line = k0.line; pending = k0.pending; counts = k0.counts } → IsRunning k0 steps 0 m a a
   starts m u goes h same =
       let w = counts (book_step k0.world.state steps) k0.world m.world u h in
-      let now : m ≡ record { world = alive w.0; number = k0.number; line = k0.line; pending = k0.pending; counts = k0.counts } =
+      let now : m ≡ record { world = alive w.0 k0.world.applied; number = k0.number; line = k0.line; pending = k0.pending; counts = k0.counts } =
       same ∙ ap (λ (z : Living). record { world = z; number = k0.number; line = k0.line; pending = k0.pending; counts = k0.counts }) w.2 in
       subst (λ (z : Kept). IsRunning k0 steps 0 z a a) (sym now) (record {
         start = w.0;
@@ -268,7 +268,7 @@ module _ (k0 : Kept) (steps : ℕ) (a : Option (List ℕ)) where
         ahead = subst (λ (w : WorldState). IsAhead k0.number steps h.start (done + 1) more w (h.lines ++ x.0)) (sym state)
             (ahead_by_step k0.number steps h.start done h.left more k.world.state h.lines step x h.ahead is_left s.is_next s.is_done);
         at = record {
-          world = λ i. record { state = m.world.state; spent = spent i };
+          world = λ i. record { state = m.world.state; applied = m.world.applied; spent = spent i };
           number = both.number ∙ h.at.number;
           line_is = both.line_is ∙ h.at.line_is;
           refusal = refl;

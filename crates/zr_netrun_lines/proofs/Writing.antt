@@ -3,8 +3,9 @@ use Rattle.std.proofs.Common.{◌≡◌, ℕ, Bool, true, false, List, [], ◌++
 use Rattle.std.specs.List.{fold}
 use Rattle.std.specs.Prelude.{OnOk, OnErr}
 use Rattle.zr_outside.specs.Told.{Appends, AppendsPrefix}
+use Rattle.zr_world_spec.specs.World.{WorldState}
 use Rattle.zr_world_spec.specs.Run.{Run, on_line}
-use Rattle.zr_world.specs.Living.{Living}
+use Rattle.zr_world.specs.Living.{Living, alive}
 use Rattle.zr_netrun_report.specs.Waiting.{Written}
 use Rattle.zr_netrun_lines.specs.declared.runner.RunStop.{RunStop}
 use Rattle.zr_netrun_lines.specs.declared.runner.RunStop.TheVariants.{Refused, NoMemory, WriteFault}
@@ -141,12 +142,16 @@ pub seen_turns : (s s' : Bool) (result : Result (Unit {0}) RunStop) (r : Run) (l
     Turns result r l earlier m (seen s' a) (seen s' b)
 seen_turns s s' result r l earlier m a b same h = subst (λ (t : Bool). Turns result r l earlier m (seen t a) (seen t b)) same h
 
+-- a world that is kept on is a run's, behind as many acts as before
+pub world_kept : (w : WorldState) (k m : Living) → m ≡ k → k ≡ alive w k.applied → m ≡ alive w m.applied
+world_kept w k m same is = same ∙ is ∙ ap (alive w) (sym (ap (λ (z : Living). z.applied) same))
+
 -- what waited was written after a turn
 pub flush_after : (s : Bool) (r : Run) (l earlier : List ℕ) (k m : Kept) (a b c : Option (List ℕ)) (result : Result (Unit {0}) RunStop) → IsAt r l earlier k a (seen s b) →
     m ≡ record { world = k.world; number = k.number; line = k.line; pending = []; counts = k.counts } → OnOk result (Appends k.pending b c) →
     OnErr result ((result ≡ Err WriteFault) × AppendsPrefix k.pending b c) → Turns result r l earlier m a (seen s c)
 flush_after s r l earlier k m a b c (Ok u) at same ok err = record {
-  world = ap (λ (z : Kept). z.world) same ∙ at.world;
+  world = world_kept r.world k.world m.world (ap (λ (z : Kept). z.world) same) at.world;
   number = ap (λ (z : Kept). z.number) same ∙ at.number;
   line_is = ap (λ (z : Kept). z.line) same ∙ at.line_is;
   refusal = at.refusal;

@@ -10,7 +10,7 @@ use Rattle.zr_world_spec.specs.Acts.{outcome}
 use Rattle.zr_world_spec.specs.Next.{Done}
 use Rattle.zr_world_spec.specs.Run.{Run, on_line}
 use Rattle.zr_outside.specs.Told.{AppendsPrefix}
-use Rattle.zr_world.specs.Living.{Living, new_world}
+use Rattle.zr_world.specs.Living.{Living, alive, new_world}
 use Rattle.zr_netrun_report.specs.declared.counts.Counts.{Counts}
 use Rattle.zr_netrun_report.specs.Waiting.{Written}
 use Rattle.zr_netrun_lines.specs.declared.runner.RunStop.{RunStop}
@@ -47,7 +47,7 @@ fresh k = record { world = k.world.state; number = k.number; text = []; refusal 
 
 -- What is kept is a run's that was not refused, behind an earlier text.
 pub record IsAt (run : Run) (line earlier : List ℕ) (new : Kept) (before after : Option (List ℕ)) : Type 0 where
-  pub world : new.world ≡ record { state = run.world; spent = false }
+  pub world : new.world ≡ alive run.world new.world.applied
   pub number : new.number ≡ run.number
   pub line_is : new.line ≡ line
   pub refusal : run.refusal ≡ None

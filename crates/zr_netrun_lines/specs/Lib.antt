@@ -1,3 +1,4 @@
 pub mod Possible
 pub mod Kept
 pub mod Counted
+pub mod Within

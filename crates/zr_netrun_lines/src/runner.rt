@@ -4,6 +4,7 @@ ghost use Rattle.std.specs.Prelude.{◌≡◌, ◌==◌, ◌+◌, ◌^◌, ◌<�
 ghost use Rattle.std.specs.List.{fold};
 ghost use Rattle.zr_script_spec.specs.Lines.{most_bytes, most_kept, ended_lines, open_line, parts, unless_empty};
 ghost use Rattle.zr_script_spec.specs.Report.{line_text};
+ghost use Rattle.zr_law_numbers.specs.Calls.{most_commands};
 ghost use Rattle.zr_world_spec.specs.Accepted.{accepted_from};
 ghost use Rattle.zr_world_spec.specs.Next.{applied, book_step, fan_step, next};
 ghost use Rattle.zr_world_spec.specs.Run.{on_line};
@@ -14,6 +15,7 @@ ghost use Rattle.zr_netrun_report.specs.Waiting.{most_pending};
 ghost use Rattle.zr_netrun_lines.specs.Kept.{begun, fresh, run_behind, run_by, seen, writes, IsKeptIf, KeepsRefused, StepsOn, Turns, refused_line};
 ghost use Rattle.zr_netrun_lines.specs.Counted.{acts_by, step_by, CountsOn};
 ghost use Rattle.zr_netrun_lines.specs.Possible.{RunsGo, StepsGo};
+ghost use Rattle.zr_netrun_lines.specs.Within.{HasRoom, OneMore};
 
 use std::alloc::{AllocError, Global};
 use std::marker::Model;
@@ -76,12 +78,13 @@ impl Model for Runner {
     ghost use Rattle.zr_script_spec.specs.Lines.{most_kept, parts};
     ghost use Rattle.zr_netrun_report.specs.Waiting.{most_pending};
     ghost use Rattle.zr_netrun_lines.specs.Kept.{Kept};
+    ghost use Rattle.zr_netrun_lines.specs.Within.{IsWithin};
 
     ghost Value = { Kept };
 
     ghost view = { λ r. record { world = r.world; number = r.number; line = r.line.items; pending = r.pending.items; counts = r.counts } };
 
-    ghost invariant = { λ r. (length r.line.items ≤ most_kept) × (parts r.line.items ≡ r.line.items ∷ []) × (length r.pending.items < most_pending) };
+    ghost invariant = { λ r. (length r.line.items ≤ most_kept) × (parts r.line.items ≡ r.line.items ∷ []) × (length r.pending.items < most_pending) × IsWithin r.world r.number };
 }
 
 impl Runner {
@@ -317,8 +320,10 @@ impl Runner {
 
     // One more line has ended. This stands apart, so that what follows has to do with a whole runner.
     fn count_line(&mut self)
-        requires room { self.old.number < 2 ^ 63 }
-        ensures { self.new ≡ record { world = self.old.world; number = self.old.number + 1; line = self.old.line; pending = self.old.pending; counts = self.old.counts } }
+        requires room { self.old.number ≤ most_bytes }
+        ensures counted { self.new ≡ record { world = self.old.world; number = self.old.number + 1; line = self.old.line; pending = self.old.pending; counts = self.old.counts } }
+        ensures room { self.old.world.spent ≡ false → HasRoom self.new }
+        ensures few { self.old.world.spent ≡ false → self.new.world.applied < most_commands }
     {
         self.number += 1;
     }
@@ -326,8 +331,11 @@ impl Runner {
     // An act is applied; what it reports is counted, or waits, and is written once enough waits.
     fn do_act<K: Sink>(&mut self, act: Act, out: &mut K) -> Result<(), RunStop>
         requires alive { self.old.world.spent ≡ false }
+        requires room { HasRoom self.old }
+        requires few { self.old.world.applied < most_commands }
         ensures turn { Turns result (run_by self.old act) self.old.line self.old.pending self.new (seen (writes self.old) (K.held out.old)) (seen (writes self.old) (K.held out.new)) }
         ensures counts { OnOk result (CountsOn (acts_by self.old (Command.Act act)) self.old self.new) }
+        ensures more { OnOk result (OneMore self.old.world self.new.world) }
         ensures waits { length self.new.pending < most_pending }
         ensures fault { result ≡ Err RunStop.WriteFault → Rose (K.faults out.old) (K.faults out.new) }
         ensures only { RoseOnlyBy RunStop.WriteFault result (K.faults out.old) (K.faults out.new) }
@@ -378,6 +386,8 @@ impl Runner {
     fn run<K: Sink>(&mut self, steps: u32, out: &mut K) -> Result<(), RunStop>
         requires alive { self.old.world.spent ≡ false }
         requires goes { RunsGo self.old.world.state }
+        requires room { HasRoom self.old }
+        requires short { self.old.number ≤ most_bytes + 1 }
         ensures turn { Turns result (run_behind self.old (applied self.old.world.state self.old.number (Command.Run steps))) self.old.line self.old.pending self.new (seen (writes self.old) (K.held out.old)) (seen (writes self.old) (K.held out.new)) }
         ensures counts { OnOk result (CountsOn (acts_by self.old (Command.Run steps)) self.old self.new) }
         ensures fault { result ≡ Err RunStop.WriteFault → Rose (K.faults out.old) (K.faults out.new) }
@@ -408,8 +418,11 @@ impl Runner {
     #[tactic(auto, using(crate::proofs::Counting::no_step_counts, crate::proofs::Counting::one_step_counts))]
     fn do_next_step<K: Sink>(&mut self, out: &mut K) -> Result<bool, RunStop>
         requires alive { self.old.world.spent ≡ false }
+        requires room { HasRoom self.old }
+        requires few { self.old.world.applied < most_commands }
         ensures steps { StepsOn (next self.old.world.state) result self.old self.new (seen (writes self.old) (K.held out.old)) (seen (writes self.old) (K.held out.new)) }
         ensures counts { OnOk result (CountsOn (step_by self.old (next self.old.world.state)) self.old self.new) }
+        ensures more { OnOk result (OneMore self.old.world self.new.world) }
         ensures fault { result ≡ Err RunStop.WriteFault → Rose (K.faults out.old) (K.faults out.new) }
         ensures only { RoseOnlyBy RunStop.WriteFault result (K.faults out.old) (K.faults out.new) }
         ensures count { self.new.number ≡ self.old.number }

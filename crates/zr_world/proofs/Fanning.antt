@@ -1,6 +1,6 @@
 -- A fan is what its tests and its steps come to.
 use Rattle.std.proofs.Common.{◌≡◌, ℕ, ◌<◌, ◌≤◌, Bool, true, false, cond, not, List, [], ◌∷◌, ◌++◌, Option, Some, None, Result, Ok, Err, map, refl, sym, ap, ◌∙◌, subst, append_assoc, append-nil, arith}
-use Rattle.std.specs.Prelude.{◌||◌, min, nat_lt, IfOk}
+use Rattle.std.specs.Prelude.{◌||◌, min, nat_lt, IfOk, OnErr}
 use Rattle.std.specs.BTreeMap.{insert_entry}
 use Rattle.std.specs.List.{AllByRecursion}
 use Rattle.std.specs.List.Sorted.{IsStrictlySortedBy}
@@ -22,8 +22,8 @@ use Rattle.zr_node_spec.specs.Table.{after}
 use Rattle.zr_node_spec.specs.Tables.{link_to}
 use Rattle.zr_told_spec.specs.Hub.{HubState, sends_told}
 use Rattle.zr_told_spec.specs.Rows.{map_on}
-use Rattle.zr_script_spec.specs.declared.command.Command.TheVariants as c
-use Rattle.zr_script_spec.specs.declared.error.ScriptError.TheVariants.{NotSettled, NotSamples, Limit}
+use Rattle.zr_script_spec.specs.declared.error.ScriptError.{ScriptError}
+use Rattle.zr_script_spec.specs.declared.error.ScriptError.TheVariants.{NotSettled, NotSamples, Limit, NoMemory}
 use Rattle.zr_script_spec.specs.declared.report.ReportLine.{ReportLine}
 use Rattle.zr_script_spec.specs.Step.{◌>>=◌}
 use Rattle.zr_router_core.specs.Calm.{IsCalm, IsCalmWith}
@@ -32,8 +32,6 @@ use Rattle.zr_world_spec.specs.Acts.{hub_of, unless}
 use Rattle.zr_world_spec.specs.Fan.{are_samples, are_many, are_long}
 use Rattle.zr_world_spec.specs.Next.{Done, fan_done, fan_step}
 use Rattle.zr_world_spec.specs.Sound.{IsSound}
-use Rattle.zr_world_spec.proofs.Next.{one_fan}
-use Rattle.zr_world_spec.proofs.Sound.{applied_keeps}
 use Rattle.zr_law_fan.specs.Samples.{IsCalm as WorldIsCalm, IsCalmRouter, emptied, quieted}
 use Rattle.zr_law_rounds.specs.Told.{MayFan, Stay}
 use Rattle.zr_law_rounds.proofs.Beginning.{new_names}
@@ -66,6 +64,11 @@ fan_too_much w line h k m = fan_judged w line true h k m
 pub fan_goes : (w v : WorldState) (line : ℕ) (l : ReportLine) → MayBegin w → fan_done line w ≡ Ok (l ∷ [], v) → fan_step w line ≡ Ok (l ∷ [], v)
 fan_goes w v line l j done = fan_judged w line false j.0 j.1 j.2 ∙ done
 
+-- where memory alone may fail there is no limit
+pub no_limit : (r : Result (Unit {0}) ScriptError) → OnErr r (r ≡ Err NoMemory) → r ≡ Err Limit → ⊥
+no_limit (Ok u) h e = cc
+no_limit (Err x) h e = cc
+
 -- a number that stands still at the largest is above what is below that where the number is
 pub above_capped : (n sum most : ℕ) → n < most → nat_lt n (min sum most) ≡ nat_lt n sum
 above_capped n sum most below = by (nat_lt n sum) refl
@@ -77,14 +80,6 @@ above_capped n sum most below = by (nat_lt n sum) refl
     by false e =
         let h : sum ≤ n = ltb-false n sum e in
         le-ltb n (min sum most) (omega arith)
-
--- a fan that was accepted
-pub fan_sound : (w v : WorldState) (line : ℕ) (before after : List ReportLine) → AppliesTo (Ok tt) (fan_step w line) w v before after → IsSound w → IsSound v
-fan_sound w v line before after k h = by (fan_step w line) k (subst (λ (d : Done). IfOk d (λ x. IsSound x.1)) (one_fan w line) (applied_keeps w line c.Fan h))
-  where
-    by : (d : Done) → AppliesTo (Ok tt) d w v before after → IfOk d (λ x. IsSound x.1) → IsSound v
-    by (Ok x) a sound = subst IsSound (sym a.0.0) sound
-    by (Err e) a sound = absurd (false≢true a.1)
 
 -- ---- its routers
 

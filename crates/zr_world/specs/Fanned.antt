@@ -7,6 +7,7 @@ use Rattle.std.specs.Ordering.{nat_cmp}
 use Rattle.std.specs.Cmp.Lexicographic.{slice_cmp}
 use Rattle.zr_law_fan.specs.Samples.{IsCalmRouter}
 use Rattle.zr_script_spec.specs.declared.error.ScriptError.{ScriptError}
+use Rattle.zr_script_spec.specs.declared.error.ScriptError.TheVariants.{Limit}
 use Rattle.zr_world_gang.specs.Shares.{ShareState, new_share}
 use Rattle.zr_world_spec.specs.World.{Routers, WorldState, is_settled}
 use Rattle.zr_world_spec.specs.Acts.{hub_of}
@@ -17,10 +18,10 @@ use Rattle.zr_world_spec.specs.Next.{fan_step}
 abbrev pub MayBegin : WorldState → Type 0
 MayBegin w = (is_settled w ≡ true) × (are_samples w ≡ true) × ((are_many w || are_long w) ≡ false)
 
--- no test refuses it, or it is refused for this
+-- no test refuses it, or it is refused for this; for a limit where more is under way than a fan takes
 abbrev pub IsJudged : WorldState → Result (Unit {0}) ScriptError → Type 0
 IsJudged w (Ok u) = MayBegin w
-IsJudged w (Err e) = (line : ℕ) → fan_step w line ≡ Err e
+IsJudged w (Err e) = ((line : ℕ) → fan_step w line ≡ Err e) × (e ≡ Limit → (are_many w || are_long w) ≡ true)
 
 -- ---- shares
 

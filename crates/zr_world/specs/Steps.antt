@@ -1,5 +1,5 @@
 -- What a call has done to the tables: what is said, or the refusal that is said and nothing else.
-use Rattle.std.specs.Prelude.{◌≡◌, true, List, [], ◌++◌, Result, Ok, Err, IfOk, is_ok}
+use Rattle.std.specs.Prelude.{◌≡◌, Bool, true, false, List, [], ◌++◌, Result, Ok, Err, IfOk, is_ok}
 use Rattle.zr_script_spec.specs.declared.error.ScriptError.{ScriptError}
 use Rattle.zr_script_spec.specs.declared.error.ScriptError.TheVariants.{NoMemory}
 use Rattle.zr_script_spec.specs.declared.report.ReportLine.{ReportLine}
@@ -24,6 +24,12 @@ Does (Err refusal) said old new = (said ≡ Err refusal) × (new ≡ old)
 abbrev pub Counts : {S : Type 0} → Result (Unit {0}) ScriptError → Result S ScriptError → S → S → Type 0
 Counts (Ok u) said old new = said ≡ Ok new
 Counts (Err refusal) said old new = (said ≡ Err refusal) × (new ≡ old)
+
+-- memory ran out
+abbrev pub is_out_of_memory : Result (Unit {0}) ScriptError → Bool
+is_out_of_memory (Ok u) = false
+is_out_of_memory (Err NoMemory) = true
+is_out_of_memory (Err refusal) = false
 
 -- What an act did to the tables of a world and to a report: `Applies` of their state.
 abbrev pub AppliesTo : Result (Unit {0}) ScriptError → Outcome → WorldState → WorldState → List ReportLine → List ReportLine → Type 0

@@ -1,6 +1,6 @@
 //! A fan: all samples under way go to their ends, round by round, the routers of a round being handled by a gang.
 
-ghost use Rattle.std.specs.Prelude.{◌≡◌, ◌∷◌, ◌-◌, ◌^◌, ◌||◌, [], Ok, IfOk, OnOk, length, min};
+ghost use Rattle.std.specs.Prelude.{◌≡◌, ◌∷◌, ◌-◌, ◌^◌, ◌||◌, [], true, Ok, IfOk, OnOk, OnErr, length, min};
 ghost use Rattle.std.specs.List.{sum_by};
 ghost use Rattle.zr_world_spec.specs.Fan.{sample_bytes, waiting_at};
 ghost use Rattle.zr_world.specs.Fanned.{AreTaken};
@@ -43,7 +43,8 @@ impl WorldTables {
         report: &mut Vec<ReportLine>,
     ) -> Result<(), ScriptError>
         requires { IsSound (state_of self.old) }
-        ensures { AppliesTo result (fan_step (state_of self.old) line) (state_of self.old) (state_of self.new) report.old.items report.new.items }
+        ensures applies { AppliesTo result (fan_step (state_of self.old) line) (state_of self.old) (state_of self.new) report.old.items report.new.items }
+        ensures limits { result ≡ Err ScriptError.Limit → (are_many (state_of self.old) || are_long (state_of self.old)) ≡ true }
     {
         match self.judge_fan() {
             Ok(()) => self.tell_fan(line, rt, gang, report),
@@ -78,7 +79,8 @@ impl WorldTables {
     ) -> Result<(), ScriptError>
         requires sound { IsSound (state_of self.old) }
         requires judged { MayBegin (state_of self.old) }
-        ensures { AppliesTo result (fan_step (state_of self.old) line) (state_of self.old) (state_of self.new) report.old.items report.new.items }
+        ensures applies { AppliesTo result (fan_step (state_of self.old) line) (state_of self.old) (state_of self.new) report.old.items report.new.items }
+        ensures memory { OnErr result (result ≡ Err ScriptError.NoMemory) }
     {
         let told = self.do_fan(line, rt, gang)?;
         report.push(told)?;

@@ -1,11 +1,14 @@
 //! `World`: what the acts of a script make, one after another.
 
-ghost use Rattle.std.specs.Prelude.{◌≡◌, true, false, is_some, IfSome};
+ghost use Rattle.std.specs.Prelude.{◌≡◌, ◌+◌, ◌<◌, ◌≤◌, ◌||◌, true, false, is_some, IfSome};
 ghost use Rattle.zr_world_spec.specs.Acts.{outcome};
+ghost use Rattle.zr_world_spec.specs.Fan.{are_many, are_long};
 ghost use Rattle.zr_world_spec.specs.Next.{next, book_step, fan_step};
-ghost use Rattle.zr_world_spec.specs.Sound.{IsSound, AllAreTaken};
+ghost use Rattle.zr_world_spec.specs.Sound.{IsSound};
 ghost use Rattle.zr_world_spec.specs.World.{router_of};
-ghost use Rattle.zr_world.specs.Living.{Applies, Books, IsPossible, new_world};
+ghost use Rattle.zr_law_numbers.specs.Calls.{most_commands};
+ghost use Rattle.zr_world.specs.Living.{Applies, Books, IsPassed, IsPossible, new_world};
+ghost use Rattle.zr_world.specs.Steps.{is_out_of_memory};
 
 use crate::tables::WorldTables;
 use std::alloc::Global;
@@ -17,9 +20,13 @@ use zr_script_spec::error::ScriptError;
 use zr_script_spec::report::ReportLine;
 use zr_world_gang::gang::Gang;
 
+/// How many acts are applied at most.
+const MOST_COMMANDS: u64 = 100_000_000;
+
 /// The routers and clients of a script, and the ends of their links with what waits there.
 pub struct World {
     tables: WorldTables,
+    applied: u64,
     spent: bool,
 }
 
@@ -28,6 +35,7 @@ impl Drop for World {
     fn drop(self) {
         let Self {
             tables: _tables,
+            applied: _applied,
             spent: _spent,
         } = self;
     }
@@ -35,15 +43,15 @@ impl Drop for World {
 
 impl Model for World {
     ghost use Rattle.std.specs.Prelude.{◌≡◌, false};
-    ghost use Rattle.zr_world_spec.specs.Sound.{IsSound};
+    ghost use Rattle.zr_law_calls.specs.Reached.{IsReached};
     ghost use Rattle.zr_world.specs.Living.{Living};
     ghost use Rattle.zr_world.specs.State.{state_of};
 
     ghost Value = { Living };
 
-    ghost view = { λ w. record { state = state_of w.tables; spent = w.spent } };
+    ghost view = { λ w. record { state = state_of w.tables; applied = w.applied; spent = w.spent } };
 
-    ghost invariant = { λ w. w.spent ≡ false → IsSound (state_of w.tables) };
+    ghost invariant = { λ w. w.spent ≡ false → IsReached (state_of w.tables) w.applied };
 }
 
 impl World {
@@ -53,15 +61,17 @@ impl World {
     {
         World {
             tables: WorldTables::new(alloc),
+            applied: 0,
             spent: false,
         }
     }
 
     /// The step that a run does next: the `handle` of the first router and neighbour, by name, at which a message waits to be handled, else
-    /// the `take` of the first at which one waits to be taken. None where no step is possible. Of a spent world nothing is said.
+    /// the `take` of the first at which one waits to be taken. None where no step is possible. By the definitions the step is accepted; `apply`
+    /// does so while fewer than 100,000,000 acts were applied. Of a spent world nothing is said.
     pub fn next(&self) -> Option<Act>
         ensures step { self.now.spent ≡ false → result ≡ next self.now.state }
-        ensures possible { self.now.spent ≡ false → AllAreTaken self.now.state → IfSome result (λ step. IsPossible self.now.state step) }
+        ensures possible { self.now.spent ≡ false → IfSome result (λ step. IsPossible self.now.state step) }
         ensures sound { self.now.spent ≡ false → IsSound self.now.state }
     {
         self.tables.next()
@@ -89,32 +99,34 @@ impl World {
     /// Does an act of a line, and appends what is reported of it.
     ///
     /// A refusal is the first that applies, and leaves the world as it was: `BadWords` of a link from a router to itself, `UnknownName`,
-    /// `NameTaken`, `NotLinked`, `AlreadyLinked`, `NothingThere`, `NotAsked`, `NotSettled`, `NotJoined`, `Limit`. After `NoMemory`, by which a
-    /// prefix of the act's lines is appended, the world is spent, and answers `NoMemory` from then on.
+    /// `NameTaken`, `NotLinked`, `AlreadyLinked`, `NothingThere`, `NotAsked`, `NotSettled`, `NotJoined`, `Limit`. `Limit` comes only where the act would
+    /// pass a limit of its own. Once 100,000,000 acts were applied, each further one is answered `Limit`, whatever it asks. After `NoMemory`, by which
+    /// a prefix of the act's lines is appended, the world is spent, and answers `NoMemory` from then on.
     pub fn apply(
         &mut self,
         line: u64,
         act: Act,
         report: &mut Vec<ReportLine>,
     ) -> Result<(), ScriptError>
-        ensures applies { self.old.spent ≡ false → Applies result (outcome self.old.state line act) self.old self.new report.old.items report.new.items }
+        ensures applies { self.old.spent ≡ false → self.old.applied < most_commands → Applies result (outcome self.old.state line act) (self.old.applied + 1) self.old self.new report.old.items report.new.items }
+        ensures full { self.old.spent ≡ false → most_commands ≤ self.old.applied → (result ≡ Err ScriptError.Limit) × (self.new ≡ self.old) × (report.new.items ≡ report.old.items) }
+        ensures limits { result ≡ Err ScriptError.Limit → IsPassed self.old act }
         ensures sound { self.new.spent ≡ false → IsSound self.new.state }
         ensures spent { self.old.spent ≡ true → (result ≡ Err ScriptError.NoMemory) × (self.new ≡ self.old) × (report.new.items ≡ report.old.items) }
     {
         if self.spent {
             return Err(ScriptError::NoMemory);
         }
-        match self.tables.act(line, act, report) {
-            Ok(()) => Ok(()),
-            Err(ScriptError::NoMemory) => {
-                self.spent = true;
-                Err(ScriptError::NoMemory)
-            }
-            Err(refusal) => Err(refusal),
+        if self.applied >= MOST_COMMANDS {
+            return Err(ScriptError::Limit);
         }
+        let done = self.tables.act(line, act, report);
+        self.applied += u64::from(done.is_ok());
+        self.spent = is_out_of_memory(&done);
+        done
     }
 
-    /// All samples under way go to their ends, the routers being handled by a gang, and one line that tells their steps is appended.
+    /// All samples under way go to their ends, the routers being handled by a gang, and one line that tells their steps is appended. They count as no act.
     ///
     /// A refusal is the first that applies, and leaves the world as it was: `NotSettled`, `NotSamples` where not only samples are under way, and `Limit`
     /// where they are too many or too long. After `NoMemory` the world is spent, and answers `NoMemory` from then on.
@@ -125,20 +137,23 @@ impl World {
         gang: &mut G,
         report: &mut Vec<ReportLine>,
     ) -> Result<(), ScriptError>
-        ensures applies { self.old.spent ≡ false → Applies result (fan_step self.old.state line) self.old self.new report.old.items report.new.items }
+        ensures applies { self.old.spent ≡ false → Applies result (fan_step self.old.state line) self.old.applied self.old self.new report.old.items report.new.items }
+        ensures limits { result ≡ Err ScriptError.Limit → (are_many self.old.state || are_long self.old.state) ≡ true }
         ensures sound { self.new.spent ≡ false → IsSound self.new.state }
         ensures spent { self.old.spent ≡ true → (result ≡ Err ScriptError.NoMemory) × (self.new ≡ self.old) × (report.new.items ≡ report.old.items) }
     {
         if self.spent {
             return Err(ScriptError::NoMemory);
         }
-        match self.tables.fan(line, rt, gang, report) {
-            Ok(()) => Ok(()),
-            Err(ScriptError::NoMemory) => {
-                self.spent = true;
-                Err(ScriptError::NoMemory)
-            }
-            Err(refusal) => Err(refusal),
-        }
+        let done = self.tables.fan(line, rt, gang, report);
+        self.spent = is_out_of_memory(&done);
+        done
     }
+}
+
+// Whether memory ran out.
+fn is_out_of_memory(done: &Result<(), ScriptError>) -> bool
+    ensures { result ≡ is_out_of_memory done.now }
+{
+    matches!(done, Err(ScriptError::NoMemory))
 }

@@ -10,6 +10,7 @@ invariant_of-self-2 c =
       rw h (kept_short c.self.inside.line.items c.args.part.now c.min-count.result c.self.invariant.0 room),
       rw h (kept_open c.self.inside.line.items c.args.part.now c.min-count.result c.self.invariant.1 c.requires),
       c.self.invariant.2,
+      c.self.invariant.3,
     )
 
 pub returns-clause-ok : goal.returns-clause-ok

@@ -6,6 +6,7 @@ use Rattle.zr_script_spec.specs.declared.report.ReportLine.TheVariants.{Ran}
 use Rattle.zr_netrun_lines.specs.Kept.{Kept, run_behind, seen, writes, StepsOn}
 use Rattle.zr_netrun_lines.proofs.Writing.{seen_turns}
 use Rattle.zr_netrun_lines.proofs.Counting.{counts_start, counts_step, counts_end, counts_rest, on_ok}
+use Rattle.zr_netrun_lines.proofs.Room.{books_more}
 use Rattle.zr_netrun_lines.proofs.Stepping.{IsRunning, begins_not, starts, lives, goes_on, rests, stops, ends}
 use Rattle.zr_outside.proofs.Counting.{only_behind, only_still, only_stopped}
 use Rattle.zr_netrun_lines.specs.declared.runner.RunStop.TheVariants as stop
@@ -19,7 +20,10 @@ returns-in_err-count_steps-clause-turn g c =
 pub loop-done-init : goal.loop-done-init
 loop-done-init g c =
     let h = starts c.args.self.now c.args.steps (seen (writes c.args.self.now) (g.K.Sink.held c.args.out.now)) c.count_steps.new.self c.in_ok-count_steps.field-0 c.requires.goes c.in_ok-count_steps.ensures.books c.in_ok-count_steps.ensures.rest in
+    let b = books_more c.args.self.now.world c.count_steps.new.self.world c.args.steps c.in_ok-count_steps.field-0 c.in_ok-count_steps.ensures.books in
     record {
+      room = omega (arith, b.count, b.sum, h.at.number, c.requires.room);
+      booked = b.most;
       alive = lives c.args.self.now c.args.steps (seen (writes c.args.self.now) (g.K.Sink.held c.args.out.now)) 0 c.count_steps.new.self _ h;
       number = h.at.number;
       later = omega arith;
@@ -27,6 +31,12 @@ loop-done-init g c =
       counted = counts_start c.args.self.now c.count_steps.new.self c.args.steps c.in_ok-count_steps.field-0 c.in_ok-count_steps.ensures.books (ap (λ (z : Kept). z.counts) c.in_ok-count_steps.ensures.rest);
       running = h;
     }
+
+pub do_next_step-requires-clause-room : goal.do_next_step-requires-clause-room
+do_next_step-requires-clause-room g c = omega (arith, c.loop-done.invariant.room)
+
+pub do_next_step-requires-clause-few : goal.do_next_step-requires-clause-few
+do_next_step-requires-clause-few g c = omega (arith, c.loop-done.invariant.room, c.loop-done.invariant.booked, c.loop-done.invariant.number, c.requires.short)
 
 pub returns-in_err-do_next_step-clause-turn : goal.returns-in_err-do_next_step-clause-turn
 returns-in_err-do_next_step-clause-turn g c =
@@ -57,6 +67,8 @@ loop-done-preserved g c =
     c.loop-done.invariant.counted.mode c.in_ok-do_next_step.ensures.steps) in
     let h = goes_on c.args.self.now c.args.steps (seen (writes c.args.self.now) (g.K.Sink.held c.args.out.now)) c.loop-done.done c.loop-done.self c.do_next_step.new.self _ _ c.loop-done.invariant.running (omega arith) moves in
     record {
+      room = omega (arith, c.in_ok-do_next_step.ensures.more.0, c.in_ok-do_next_step.ensures.more.1, c.in_ok-do_next_step.ensures.count, c.loop-done.invariant.room);
+      booked = omega (arith, c.in_ok-do_next_step.ensures.more.1, c.loop-done.invariant.booked);
       alive = lives c.args.self.now c.args.steps (seen (writes c.args.self.now) (g.K.Sink.held c.args.out.now)) (c.loop-done.done + 1) c.do_next_step.new.self _ h;
       number = h.at.number;
       later = omega (arith, c.in_ok-do_next_step.ensures.later, c.loop-done.invariant.later);
