@@ -1,5 +1,5 @@
 -- What clients' interests are, and what they weigh, once one is kept or forgotten at its place.
-use Rattle.std.proofs.Common.{◌≡◌, ℕ, ◌+◌, not, Bool, true, false, cond, List, [], ◌∷◌, Ordering, Less, Equal, Greater, Option, Result, Ok, Err, OnOk, OnErr, get_or, set, refl, sym, ap, ◌∙◌, arith, rules}
+use Rattle.std.proofs.Common.{◌≡◌, ℕ, ◌+◌, not, Bool, true, false, cond, List, [], ◌∷◌, Ordering, Less, Equal, Greater, Option, Result, Ok, Err, OnOk, OnErr, get_or, set, refl, sym, ap, ◌∙◌, arith}
 use Rattle.std.specs.List.{insert, sum_by}
 use Rattle.std.specs.List.Sorted.{IsStrictlySortedBy}
 use Rattle.std.specs.Option.{option_map_or}

@@ -1,8 +1,10 @@
 //! `Interest`: of what a client wants to be told (Zenoh protocol 1.0, "INTEREST"), and the live interests of one client.
 
 ghost use Rattle.std.specs.Prelude.{◌≡◌, ◌+◌, ◌-◌, ◌<◌, ◌≤◌, [], length, slice_set, IfOk, OnOk, OnErr};
+ghost use Rattle.std.specs.Option.{option_map_or};
 ghost use Rattle.std.specs.Ordering.{nat_cmp};
 ghost use Rattle.zr_local.specs.Interests.{AreById, interest_id, interest_weight, interests_weight};
+ghost use Rattle.zr_log_set.specs.Decls.{decl_overhead};
 ghost use Rattle.zr_lists.specs.Ascending.{put, without};
 ghost use Rattle.zr_lists.specs.Place.{IsPlace};
 
@@ -69,11 +71,7 @@ impl Interest {
     pub fn weight(&self) -> u64
         ensures { result ≡ interest_weight self.now }
     {
-        let text = match &self.key {
-            Some(key) => key.text().len() as u64,
-            None => 0,
-        };
-        text + OVERHEAD
+        key_weight(&self.key)
     }
 }
 
@@ -181,6 +179,23 @@ fn copies_of(alloc: Global, interests: &[Interest]) -> Result<Vec<Interest>, All
         copies.push(interest.copy(alloc)?)?;
     }
     Ok(copies)
+}
+
+/// What an interest with such a key weighs: as much as a declaration of it, and one without a key as one of no text.
+pub(crate) fn key_weight(key: &Option<KeyExpr>) -> u64
+    ensures { result ≡ option_map_or (λ k. length k) key.now 0 + decl_overhead }
+{
+    match key {
+        Some(key) => text_weight(key),
+        None => OVERHEAD,
+    }
+}
+
+/// What a declaration of a key weighs: the bytes of its text, and 16.
+pub(crate) fn text_weight(key: &KeyExpr) -> u64
+    ensures { result ≡ length key.now + decl_overhead }
+{
+    key.text().len() as u64 + OVERHEAD
 }
 
 /// The key of an interest once more, where it has one.

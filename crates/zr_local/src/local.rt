@@ -1,23 +1,25 @@
 //! `Local`: what the clients of one router have declared, and their live interests.
 
-ghost use Rattle.std.specs.Prelude.{◌≡◌, ◌+◌, ◌==◌, true, [], IfOk, OnOk, OnErr};
+ghost use Rattle.std.specs.Prelude.{◌≡◌, ◌+◌, ◌==◌, true, [], Some, IfOk, OnOk, OnErr};
 ghost use Rattle.std.specs.Option.{option_map_or};
 ghost use Rattle.zr_local.specs.Clients.{AreByLink, kept, forgotten, noted, clients_left, clients_weight, weight_but};
 ghost use Rattle.zr_local.specs.Interests.{interest_weight};
 ghost use Rattle.zr_local.specs.Rows.{AreInOrder, id_kind, row_key, key_cmp, declared, undeclared, left, weight_of, gone, came, refuses_undeclare, refusal, over_limit};
 ghost use Rattle.zr_local.specs.State.{refuses_declare, refuses_interest};
+ghost use Rattle.zr_local.specs.declared.interest.Interest.{Interest};
 ghost use Rattle.zr_lists.specs.Place.{IsGap, IsAt};
 
 use crate::changes::{Changes, difference};
 use crate::clients::Clients;
 use crate::error::LocalError;
-use crate::interest::{ClientInterests, Interest};
+use crate::interest::{ClientInterests, Interest, key_weight, text_weight};
 use crate::leaving::{keep_unowned, release, set_on, take_out, weight_without};
 use crate::owners::Owners;
 use crate::row::{Key, Row, copies_of, exchange, insert, place_of, remove};
 use std::alloc::{AllocError, Global};
 use std::marker::Model;
 use zr_id::link::LinkNo;
+use zr_key::key::KeyExpr;
 use zr_log_set::decl_set::DeclSet;
 use zr_log_set::weight::{decl_weight, is_over_limit};
 use zr_msg::decl::{Decl, Kind};
@@ -138,6 +140,41 @@ impl Local {
         }
     }
 
+    /// Why a declaration of a key under an id would be refused, if it would be. It takes no memory.
+    pub fn refuses_declare(
+        &self,
+        link: LinkNo,
+        id: u32,
+        kind: Kind,
+        key: &KeyExpr,
+    ) -> Option<LocalError>
+        ensures { result ≡ refuses_declare self.now (record { link = link; id = id; decl = record { kind = kind; key = key.now } }) }
+    {
+        over_limit(self.weight_beside(link, id, kind), text_weight(key))
+    }
+
+    /// Why what the client has declared under the id in this kind would not be taken back, if it would not be. It takes no memory.
+    pub fn refuses_undeclare(&self, link: LinkNo, id: u32, kind: Kind) -> Option<LocalError>
+        ensures { result ≡ refuses_undeclare self.now.rows (record { link = link.0; kind = id_kind kind; id = id }) }
+    {
+        match place_of(&self.rows, Key::new(link, id, kind)) {
+            Ok(_) => None,
+            Err(_) => Some(LocalError::UnknownId),
+        }
+    }
+
+    /// Why an interest with such a key would be refused under an id, if it would be, in whatever it is. It takes no memory.
+    pub fn refuses_interest(
+        &self,
+        link: LinkNo,
+        id: u32,
+        key: &Option<KeyExpr>,
+    ) -> Option<LocalError>
+        ensures { (i : Interest) → i.key ≡ key.now → result ≡ refuses_interest self.now link id (Some i) }
+    {
+        over_limit(self.weight_but(link, id), key_weight(key))
+    }
+
     /// All that the client of a link has declared goes, and so do its interests.
     pub fn leave(&mut self, link: LinkNo) -> Result<Changes, AllocError>
         ensures gone { IfOk result (λ c. c.gone.items ≡ gone self.old.rows (left self.old.rows link.0)) }
@@ -192,10 +229,20 @@ impl Local {
         self.clients.weight_without(link, held)
     }
 
-    // what all but the row at the place weigh, whose key this row has
-    fn weight_of_others(&self, at: usize, row: &Row) -> u64
-        requires { IsAt key_cmp row_key self.now.rows (row_key row.now) at }
-        ensures { result ≡ weight_of (undeclared self.now.rows (row_key row.now)) + clients_weight self.now.clients }
+    // what all but the row of a key weigh
+    fn weight_beside(&self, link: LinkNo, id: u32, kind: Kind) -> u64
+        ensures { result ≡ weight_of (undeclared self.now.rows (record { link = link.0; kind = id_kind kind; id = id })) + clients_weight self.now.clients }
+    {
+        match place_of(&self.rows, Key::new(link, id, kind)) {
+            Ok(at) => self.weight_of_others(at, link, id, kind),
+            Err(_) => self.held,
+        }
+    }
+
+    // what all but the row at the place weigh, which has this key
+    fn weight_of_others(&self, at: usize, link: LinkNo, id: u32, kind: Kind) -> u64
+        requires { IsAt key_cmp row_key self.now.rows (record { link = link.0; kind = id_kind kind; id = id }) at }
+        ensures { result ≡ weight_of (undeclared self.now.rows (record { link = link.0; kind = id_kind kind; id = id })) + clients_weight self.now.clients }
     {
         let old = &self.rows[at];
         self.held - decl_weight(&old.decl)
@@ -210,7 +257,7 @@ impl Local {
         ensures refused { refuses_declare self.old row ≡ refusal result }
         ensures unchanged { OnErr result (self.new ≡ self.old) }
     {
-        let held = self.weight_of_others(at, &row);
+        let held = self.weight_of_others(at, row.link, row.id, row.decl.kind);
         let more = decl_weight(&row.decl);
         within(held, more)?;
         Ok(self.exchange_within(at, row, held + more)?)
@@ -275,8 +322,17 @@ impl Local {
 fn within(held: u64, more: u64) -> Result<(), LocalError>
     ensures { over_limit held more ≡ refusal result }
 {
-    if is_over_limit(held, more) {
-        return Err(LocalError::TextLimit { held, more });
+    match over_limit(held, more) {
+        Some(refused) => Err(refused),
+        None => Ok(()),
     }
-    Ok(())
+}
+
+fn over_limit(held: u64, more: u64) -> Option<LocalError>
+    ensures { result ≡ over_limit held more }
+{
+    if is_over_limit(held, more) {
+        return Some(LocalError::TextLimit { held, more });
+    }
+    None
 }

@@ -1,7 +1,8 @@
 //! `Known`: the change logs of all routers, as far as one router knows them.
 
-ghost use Rattle.std.specs.Prelude.{◌≡◌, ◌+◌, ◌<◌, if◌then◌else◌, IfOk, OnOk, OnErr};
+ghost use Rattle.std.specs.Prelude.{◌≡◌, ◌+◌, ◌<◌, false, if◌then◌else◌, None, IfOk, OnOk, OnErr};
 ghost use Rattle.std.specs.Option.{option_copied};
+ghost use Rattle.zr_id.specs.Zid.{is_named};
 ghost use Rattle.zr_log.specs.Known.{AreInOrder, IsRefusedAs, sources, log_of, position, decls, with_log, nothing_known, after_own, refuses_own, is_next, is_newer, after_step, after_snap, refuses_step, refuses_snap, refusal, over_limit};
 ghost use Rattle.zr_log.specs.Log.{changed, change_held};
 
@@ -135,17 +136,28 @@ impl Known {
         if source == self.me || number <= has {
             return Ok(Taken::Old);
         }
-        if number - has > 1 {
-            return Err(KnownError::Gap {
-                source,
-                has,
-                came: number,
-            });
+        if let Some(refused) = self.refuses_behind(has, source, number, added, decl) {
+            return Err(refused);
         }
-        let held = self.held(&source, added, decl);
-        within(held, log::more(added, decl))?;
         self.change(source, number, added, decl)?;
         Ok(Taken::New)
+    }
+
+    /// Why a change of another router's log would be refused, if it would be. It takes no memory.
+    pub fn refuses_step(
+        &self,
+        source: Zid,
+        number: u64,
+        added: bool,
+        decl: &Decl,
+    ) -> Option<KnownError>
+        ensures { result ≡ refuses_step self.now source number (record { added = added; decl = decl.now }) }
+    {
+        let has = self.position(source);
+        if source == self.me || number <= has {
+            return None;
+        }
+        self.refuses_behind(has, source, number, added, decl)
     }
 
     /// Takes over a snapshot of another router's log where it is beyond what is known. The declarations may come in any order.
@@ -180,6 +192,31 @@ impl Known {
             Some(log) => log::held(&log.decls, added, decl),
             None => 0,
         }
+    }
+
+    // why a change beyond what is known of another router's log is refused
+    fn refuses_behind(
+        &self,
+        has: u64,
+        source: Zid,
+        number: u64,
+        added: bool,
+        decl: &Decl,
+    ) -> Option<KnownError>
+        requires other { is_named source self.now.me ≡ false }
+        requires has { has ≡ position self.now source }
+        requires beyond { has < number }
+        ensures refused { result ≡ refuses_step self.now source number (record { added = added; decl = decl.now }) }
+        ensures next { result ≡ None → number ≡ has + 1 }
+    {
+        if number - has > 1 {
+            return Some(KnownError::Gap {
+                source,
+                has,
+                came: number,
+            });
+        }
+        over_limit(self.held(&source, added, decl), log::more(added, decl))
     }
 
     // the log of a router has one change more, of this number
@@ -223,8 +260,17 @@ impl Known {
 fn within(held: u64, more: u64) -> Result<(), KnownError>
     ensures { over_limit held more ≡ refusal result }
 {
-    if is_over_limit(held, more) {
-        return Err(KnownError::TextLimit { held, more });
+    match over_limit(held, more) {
+        Some(refused) => Err(refused),
+        None => Ok(()),
     }
-    Ok(())
+}
+
+fn over_limit(held: u64, more: u64) -> Option<KnownError>
+    ensures { result ≡ over_limit held more }
+{
+    if is_over_limit(held, more) {
+        return Some(KnownError::TextLimit { held, more });
+    }
+    None
 }

@@ -15,6 +15,7 @@ use Rattle.zr_node.specs.Done.{Part, IsDone}
 use Rattle.zr_node.specs.declared.failure.NodeFailure.{NodeFailure}
 use Rattle.zr_node.specs.declared.failure.NodeFailure.TheVariants.{Refused}
 use Rattle.zr_node.proofs.Done.{failed, nothing_sent}
+use Rattle.zr_node.proofs.Early.{none_late}
 
 -- a number that has room isn't refused
 pub not_refused : (b : BaseState) (r : Result (Unit {0}) ChangeError) → is_worn b ≡ false → ((r ≡ Err change.Worn) ↔ (own_seq b ≡ 2 ^ 64 - 1)) → None ≡ refusal r
@@ -26,4 +27,4 @@ not_refused b (Err change.Worn) h k = absurd (true≢false (sym (eq-eqb (own_seq
 pub change_failed : (p : Part) (e : ChangeError) (r : Result (Unit {0}) NodeFailure) (now : NodeState) (said : List (LinkNo × Msg)) → IsErrAnd r (λ f. f ≡ change_failure e) → p.refused ≡ refusal (Err e) → now ≡ p.before
     → IsDone p r now said said
 change_failed p change.Worn r now said h why same = failed p (Refused Worn) r now said said h (record { refused = why; state = same; sends = refl })
-change_failed p change.NoMemory r now said h why same = nothing_sent p r now said said h refl
+change_failed p change.NoMemory r now said h why same = nothing_sent p r now said h (none_late p.refused why)

@@ -23,12 +23,13 @@ use Rattle.zr_node_spec.specs.Tables.{link_at, is_router}
 use Rattle.zr_node_spec.specs.Event.{Tells, TellsPrefix}
 use Rattle.zr_node_spec.specs.State.{NodeState, tables}
 use Rattle.zr_node_spec.specs.Table.{base_down, base_parted, without_link, with_rows, sends_rows, sends_down, sends_parted, refuses_rows, refuses_down, refuses_parting}
-use Rattle.zr_node.specs.Done.{Part, IsLeft, IsDone}
+use Rattle.zr_node.specs.Done.{Part, IsLeft, IsLacking, IsDone}
 use Rattle.zr_node.specs.Steps.{with_links, with_table, ended_on, event_part, asked_part, leave_part, down_part, parted_from}
 use Rattle.zr_node.specs.declared.asked.Asked.TheVariants.{Leave}
 use Rattle.zr_node.specs.declared.failure.NodeFailure.{NodeFailure}
 use Rattle.zr_node.specs.declared.failure.NodeFailure.TheVariants.{Refused, NoMemory}
 use Rattle.zr_node.proofs.Done.{redone}
+use Rattle.zr_node.proofs.Early.{none_late}
 use Rattle.zr_node.proofs.Quiet.{nothing_more, rows_stay, rows_silent, rows_allowed}
 use Rattle.zr_node.proofs.Retold.{nothing_told, all_told, told_behind, told_both, prefix_first}
 
@@ -136,17 +137,20 @@ module _ (n : NodeState) (link : LinkNo) where
   -- that fails, and what was to be told of it is forgotten
   pub leaving_failed : (e : NodeFailure) (now : NodeState) (said told : List (LinkNo × Msg)) → IsDone leaves (Err e) now [] told → IsDone (leave_part n link) (Err e) now said said
   leaving_failed (Refused why) now said told h = record { refused = h.refused; state = h.state; sends = refl }
-  leaving_failed NoMemory now said told h = nothing_told (leave_part n link).sends said
+  leaving_failed NoMemory now said told h = record { late = h.late; sends = nothing_told (leave_part n link).sends said }
 
   module _ (first : NodeState) (told : List (LinkNo × Msg)) (left : IsLeft leaves first [] told) (said mid : List (LinkNo × Msg)) where
     -- memory ran out in the finals
-    pub ending_failed : TellsPrefix (sends_ends first.pending first.held link.0) said mid → TellsPrefix (leave_part n link).sends said mid
-    ending_failed h =
-        prefix_first (sends_ends n.pending n.held link.0) leaves.sends (leave_part n link).sends said (λ to. refl) mid
-        (subst (λ (m : NodeState). TellsPrefix (sends_ends m.pending m.held link.0) said mid) left.state h)
+    pub ending_failed : TellsPrefix (sends_ends first.pending first.held link.0) said mid → IsLacking (leave_part n link) said mid
+    ending_failed h = record {
+      late = none_late leaves.refused left.allowed;
+      sends =
+          prefix_first (sends_ends n.pending n.held link.0) leaves.sends (leave_part n link).sends said (λ to. refl) mid
+          (subst (λ (m : NodeState). TellsPrefix (sends_ends m.pending m.held link.0) said mid) left.state h);
+    }
 
     -- or behind them
-    pub finals_told : Tells (sends_ends first.pending first.held link.0) said mid → TellsPrefix (leave_part n link).sends said mid
+    pub finals_told : Tells (sends_ends first.pending first.held link.0) said mid → IsLacking (leave_part n link) said mid
     finals_told h = ending_failed (all_told (sends_ends first.pending first.held link.0) said mid h)
 
     -- the finals are told, and then what was to be told

@@ -12,7 +12,7 @@ pub judged : {X : Type 0} (id : ℕ) (r : Result X LocalError) → IsJudged (opt
 judged id (Ok x) = refl
 judged id (Err local.UnknownId) = refl
 judged id (Err (local.TextLimit held more)) = refl
-judged id (Err local.NoMemory) = tt
+judged id (Err local.NoMemory) = refl
 
 pub if_answered : {X : Type 0} (P : X → Type 0) (id : ℕ) (r : Result X LocalError) → IfOk r P → IfOk (answered id r) P
 if_answered P id (Ok x) h = h

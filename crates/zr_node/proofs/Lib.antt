@@ -2,6 +2,7 @@ pub mod Accepted
 pub mod Answers
 pub mod Done
 pub mod Downs
+pub mod Early
 pub mod Free
 pub mod Handled
 pub mod Judged

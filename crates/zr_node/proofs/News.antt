@@ -1,15 +1,24 @@
 -- A change or a snapshot of another router's log that is taken over.
-use Rattle.std.proofs.Common.{◌≡◌, ℕ, ◌&&◌, Bool, true, false, cond, List, [], ◌∷◌, Option, None, option_map, refl, sym, ap, subst}
+use Rattle.std.proofs.Common.{◌≡◌, ℕ, ◌&&◌, Bool, true, false, cond, List, [], ◌∷◌, Option, Some, None, Result, Err, option_map, refl, sym, ap, subst}
+use Rattle.std.specs.Result.{IsErrAnd}
 use Rattle.zr_id.specs.declared.link.LinkNo.{LinkNo}
-use Rattle.zr_log.specs.Known.{KnownState}
+use Rattle.zr_log.specs.Known.{KnownState, IsRefusedAs, refusal}
 use Rattle.zr_log.specs.declared.error.KnownError.{KnownError}
+use Rattle.zr_log.specs.declared.error.KnownError.TheVariants as known
+use Rattle.zr_log.specs.declared.known.Taken.{Taken}
 use Rattle.zr_log.specs.declared.known.Taken.TheVariants.{New, Old}
+use Rattle.zr_msg.specs.declared.error.NodeError.TheVariants as error
 use Rattle.zr_msg.specs.declared.msg.Msg.{Msg}
 use Rattle.zr_node_spec.specs.Tables.{leads_to_router, is_to_child}
+use Rattle.zr_node_spec.specs.Early.{is_early}
 use Rattle.zr_node_spec.specs.Event.{Tells}
 use Rattle.zr_node_spec.specs.State.{NodeState, tables}
 use Rattle.zr_node_spec.specs.Table.{with_known, known_error}
-use Rattle.zr_node.specs.Done.{Part, IsLeft}
+use Rattle.zr_node.specs.Answer.{known_failure}
+use Rattle.zr_node.specs.Done.{Part, IsLeft, IsDone}
+use Rattle.zr_node.specs.declared.failure.NodeFailure.{NodeFailure}
+use Rattle.zr_node.specs.declared.failure.NodeFailure.TheVariants.{Refused}
+use Rattle.zr_node.proofs.Done.{failed, nothing_sent}
 
 -- ---- answers
 
@@ -41,3 +50,29 @@ module _ (n : NodeState) (from : ℕ) (source : List ℕ) (logs : KnownState) (n
           state = subst (λ (b : Bool). now ≡ (by_role b).left) (sym router) e;
           sends = told;
         }
+
+    -- it is refused, or memory ran out
+    pub news_failed : (e : KnownError) (r : Result (Unit {0}) NodeFailure) (now : NodeState) (said : List (LinkNo × Msg)) → IsErrAnd r (λ f. f ≡ known_failure e) → IsRefusedAs {X = Unit {0}} why (Err e)
+        → (e ≡ known.NoMemory → is_early news_part.refused ≡ false) → now ≡ n → IsDone news_part r now said said
+    news_failed e r now said h j late same = by e h j late
+      where
+        refused : (x : KnownError) → why ≡ Some x → news_part.refused ≡ Some (known_error x)
+        refused x j = subst (λ (b : Bool). (by_role b).refused ≡ Some (known_error x)) (sym router) (ap (option_map (λ y. known_error y)) j)
+
+        by : (e : KnownError) → IsErrAnd r (λ f. f ≡ known_failure e) → IsRefusedAs {X = Unit {0}} why (Err e) → (e ≡ known.NoMemory → is_early news_part.refused ≡ false) → IsDone news_part r now said said
+        by (known.Gap s has came) h j late = failed news_part (Refused (error.Gap s has came)) r now said said h (record { refused = refused (known.Gap s has came) j; state = same; sends = refl })
+        by (known.TextLimit held more) h j late = failed news_part (Refused (error.TextLimit held more)) r now said said h (record { refused = refused (known.TextLimit held more) j; state = same; sends = refl })
+        by known.Worn h j late = failed news_part (Refused error.Worn) r now said said h (record { refused = refused known.Worn j; state = same; sends = refl })
+        by known.NoMemory h j late = nothing_sent news_part r now said h (late refl)
+
+pub refused_as : (why : Option KnownError) (e : KnownError) → why ≡ refusal {X = Taken} (Err e) → IsRefusedAs {X = Unit {0}} why (Err e)
+refused_as why (known.Gap s has came) j = j
+refused_as why (known.TextLimit held more) j = j
+refused_as why known.Worn j = j
+refused_as why known.NoMemory j = tt
+
+pub refused_again : (why : Option KnownError) (e : KnownError) → IsRefusedAs {X = Taken} why (Err e) → IsRefusedAs {X = Unit {0}} why (Err e)
+refused_again why (known.Gap s has came) j = j
+refused_again why (known.TextLimit held more) j = j
+refused_again why known.Worn j = j
+refused_again why known.NoMemory j = tt

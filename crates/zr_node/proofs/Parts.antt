@@ -150,7 +150,7 @@ module _ (n : NodeState) (link : LinkNo) (id : ℕ) (i : Option Interest) where
           → OnErr r (now ≡ n) → IsDone (interest_by true) r now said said
       by (Ok x) s j u = record { allowed = j; state = s; sends = silent (λ to. []) said (λ to. refl) }
       by (Err (Refused why)) s j u = record { refused = j; state = u; sends = refl }
-      by (Err NoMemory) s j u = nothing_told (λ to. []) said
+      by (Err NoMemory) s j u = record { late = j; sends = nothing_told (λ to. []) said }
 
 -- ---- the same event
 

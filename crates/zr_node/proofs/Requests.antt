@@ -19,6 +19,7 @@ use Rattle.zr_query.specs.declared.asking.RequestError.{RequestError}
 use Rattle.zr_query.specs.declared.asking.RequestError.TheVariants as request
 use Rattle.zr_node_spec.specs.Queries.{after_request, asked_links, asker, asks_most, gathering_if, has_no_number, most_pending, sends_request}
 use Rattle.zr_node_spec.specs.Tables.{TableState, leads_to_client}
+use Rattle.zr_node_spec.specs.Early.{is_early}
 use Rattle.zr_node_spec.specs.Event.{Tells, TellsPrefix}
 use Rattle.zr_node_spec.specs.State.{NodeState, tables}
 use Rattle.zr_node_spec.specs.Table.{refuses_request, with_held, with_pending}
@@ -28,7 +29,8 @@ use Rattle.zr_node.specs.Requests.{refuses_asker}
 use Rattle.zr_node.specs.Steps.{after_asking, pending_of, request_part, with_table}
 use Rattle.zr_node.specs.declared.failure.NodeFailure.{NodeFailure}
 use Rattle.zr_node.specs.declared.failure.NodeFailure.TheVariants.{Refused, NoMemory}
-use Rattle.zr_node.proofs.Done.{failed}
+use Rattle.zr_node.proofs.Done.{failed, lacked}
+use Rattle.zr_node.proofs.Early.{worn_late}
 
 -- the route of what a request seeks is its route
 pub is_route : (t : TableState) (tree : List ℕ) (target : Target) (sought : Sought) (key own_key : List ℕ) (stops : List RouteLink) → stops ≡ route_of t tree sought key → sought ≡ sought_by target → key ≡ own_key
@@ -60,6 +62,9 @@ module _ (n : NodeState) (from number : ℕ) (named : Option (List ℕ)) (target
   abbrev over : TableState → List LinkNo
   over t = asked_links t from named target content.key
 
+  pub request_late : is_early part.refused ≡ false
+  request_late = ap is_early (asker_allowed n from number (over (tables n)) allowed) ∙ worn_late (has_no_number n.pending (over (tables n)))
+
   -- each has one: the request goes on
   pub request_left : (t : TableState) → t ≡ tables n → (p : PendingState) (said all : List (LinkNo × Msg)) → Tells (sends_request t n.pending from named number target content) said all
       → p.rows ≡ after_request t n.pending from named number target content.key
@@ -82,4 +87,5 @@ module _ (n : NodeState) (from number : ℕ) (named : Option (List ℕ)) (target
       failed part (Refused Worn) r (with_table n p) said all h
       (record { refused = asker_allowed n from number (over (tables n)) allowed ∙ ap (λ b. cond b (Some Worn) None) none; state = ap (λ (q : PendingState). with_table n q) (same refl).0; sends = (same refl).1 })
   request_failed t is p said all request.NoMemory r h full same prefix =
-      failed part NoMemory r (with_table n p) said all h (subst (λ (u : TableState). TellsPrefix (sends_request u n.pending from named number target content) said all) is prefix)
+      lacked part r (with_table n p) said all h request_late
+      (subst (λ (u : TableState). TellsPrefix (sends_request u n.pending from named number target content) said all) is prefix)

@@ -23,7 +23,8 @@ use Rattle.zr_node.specs.Steps.{with_local, with_asked, asked_part}
 use Rattle.zr_node.specs.declared.asked.Asked.{Asked}
 use Rattle.zr_node.specs.declared.failure.NodeFailure.{NodeFailure}
 use Rattle.zr_node.specs.declared.failure.NodeFailure.TheVariants.{Refused, NoMemory}
-use Rattle.zr_node.proofs.Done.{failed, nothing_sent, judged_failed}
+use Rattle.zr_node.proofs.Done.{failed, lacked, nothing_sent, judged_failed}
+use Rattle.zr_node.proofs.Early.{behind_late, change_late, rows_late}
 
 -- ---- room in the log
 
@@ -48,7 +49,14 @@ module _ (n : NodeState) (asked : Asked) where
       → IsDone (asked_part n asked) r now said said
   asked_failed (Refused why) r now said h j same =
       failed (asked_part n asked) (Refused why) r now said said h (record { refused = ap (λ (o : Option NodeError). option_or o (refuses_rows n (rows_after n.rows asked))) j; state = same; sends = refl })
-  asked_failed NoMemory r now said h j same = nothing_sent (asked_part n asked) r now said said h refl
+  asked_failed NoMemory r now said h j same =
+      nothing_sent (asked_part n asked) r now said h (behind_late (refuses_asked (local_state n) asked) (refuses_rows n (rows_after n.rows asked)) (rows_late n (rows_after n.rows asked)) ∙ j)
+
+  -- or there is no memory once it isn't refused for itself
+  pub rows_failed : (r : Result (Unit {0}) NodeFailure) (now : NodeState) (said all : List (LinkNo × Msg)) → IsErrAnd r (λ f. f ≡ NoMemory) → refuses_asked (local_state n) asked ≡ None
+      → TellsPrefix (asked_part n asked).sends said all → IsDone (asked_part n asked) r now said all
+  rows_failed r now said all h allowed sent =
+      lacked (asked_part n asked) r now said all h (change_late n asked allowed) sent
 
   -- it was judged to be refused
   pub judge_failed : (e : NodeFailure) (r : Result (Unit {0}) NodeFailure) (now : NodeState) (said : List (LinkNo × Msg)) → IsErrAnd r (λ f. f ≡ e) → IsJudged {X = Unit {0}} (refuses_change n asked) (Err e) → now ≡ n

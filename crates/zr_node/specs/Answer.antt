@@ -1,5 +1,5 @@
 -- What a router answers where it doesn't handle an event.
-use Rattle.std.specs.Prelude.{◌≡◌, ◌⊎◌, ℕ, if◌then◌else◌, Option, Some, None, Result, Ok, Err}
+use Rattle.std.specs.Prelude.{◌≡◌, ◌⊎◌, ℕ, false, if◌then◌else◌, Option, Some, None, Result, Ok, Err}
 use Rattle.zr_graph.specs.declared.base.ChangeError.{ChangeError}
 use Rattle.zr_graph.specs.declared.base.ChangeError.TheVariants as change
 use Rattle.zr_local.specs.declared.error.LocalError.{LocalError}
@@ -11,6 +11,7 @@ use Rattle.zr_msg.specs.declared.error.NodeError.TheVariants as node
 use Rattle.zr_msg.specs.declared.event.Event.{Event}
 use Rattle.zr_query.specs.declared.asking.RequestError.{RequestError}
 use Rattle.zr_query.specs.declared.asking.RequestError.TheVariants as request
+use Rattle.zr_node_spec.specs.Early.{is_early}
 use Rattle.zr_node_spec.specs.State.{NodeState}
 use Rattle.zr_node_spec.specs.Table.{refuses}
 use Rattle.zr_node.specs.declared.failure.NodeFailure.{NodeFailure}
@@ -44,11 +45,21 @@ answered id (Err local.UnknownId) = Err (Refused (node.NotDeclared id))
 answered id (Err (local.TextLimit held more)) = Err (Refused (node.TextLimit held more))
 answered id (Err local.NoMemory) = Err NoMemory
 
--- the refusal was answered, or memory ran out first
+-- the refusal was answered, or memory ran out first, where it is none that is found without memory
 abbrev pub IsJudged : {X : Type 0} → Option NodeError → Result X NodeFailure → Type 0
 IsJudged r (Ok x) = r ≡ None
 IsJudged r (Err (Refused e)) = r ≡ Some e
-IsJudged r (Err NoMemory) = Unit {0}
+IsJudged r (Err NoMemory) = is_early r ≡ false
+
+-- the refusal was found without memory, or it is none that is found so
+abbrev pub IsFound : Option NodeError → Option NodeError → Type 0
+IsFound r (Some e) = r ≡ Some e
+IsFound r None = is_early r ≡ false
+
+-- where memory ran out, and this is what was found without
+abbrev pub lacking : Option NodeError → NodeFailure
+lacking (Some e) = Refused e
+lacking None = NoMemory
 
 -- the refusal of a router: Spent where memory ran out at an earlier event, and else what the table refuses
 abbrev pub refusal_of : NodeState → Event → Option NodeError

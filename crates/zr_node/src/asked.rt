@@ -1,8 +1,10 @@
 //! What a client asks of its declarations, and what becomes of them.
 
 ghost use Rattle.std.specs.Prelude.{◌≡◌, ◌+◌, ◌-◌, ◌^◌, not, nat_lt, length, map, IfOk, OnOk, OnErr};
+ghost use Rattle.std.specs.Option.{option_map};
 ghost use Rattle.zr_local.specs.Rows.{gone, came};
 ghost use Rattle.zr_node_spec.specs.Changes.{changes_of, after_changes};
+ghost use Rattle.zr_node_spec.specs.Table.{local_error};
 ghost use Rattle.zr_node.specs.Answer.{IsJudged, answered};
 ghost use Rattle.zr_node.specs.Asked.{rows_after, local_after, refuses_asked};
 
@@ -61,6 +63,32 @@ pub fn apply(local: &mut Local, asked: Asked) -> Result<Changes, NodeFailure>
         Asked::Undeclare { link, id, kind } => answer(id, local.undeclare(link, id, kind)),
         Asked::Leave { link } => Ok(local.leave(link)?),
     }
+}
+
+/// Why what a client asks is refused for itself, if it is. It takes no memory.
+pub fn refusal(local: &Local, asked: &Asked) -> Option<NodeError>
+    ensures { result ≡ refuses_asked local.now asked.now }
+{
+    match asked {
+        Asked::Declare { link, id, decl } => {
+            told_as(*id, local.refuses_declare(*link, *id, decl.kind, &decl.key))
+        }
+        Asked::Undeclare { link, id, kind } => {
+            told_as(*id, local.refuses_undeclare(*link, *id, *kind))
+        }
+        Asked::Leave { .. } => None,
+    }
+}
+
+/// Why what a client says of an id is refused, as the router's own refusal.
+pub fn told_as(id: u32, refused: Option<LocalError>) -> Option<NodeError>
+    ensures { result ≡ option_map (λ e. local_error id e) refused }
+{
+    Some(match refused? {
+        LocalError::UnknownId => NodeError::NotDeclared { id },
+        LocalError::TextLimit { held, more } => NodeError::TextLimit { held, more },
+        LocalError::NoMemory => NodeError::NoMemory,
+    })
 }
 
 /// What became of what a client says of an id, as an answer of the router.

@@ -1,5 +1,10 @@
 //! Why an event isn't handled, as the parts of the router tell each other.
 
+ghost use Rattle.std.specs.Prelude.{◌≡◌};
+ghost use Rattle.std.specs.Option.{option_map};
+ghost use Rattle.zr_node_spec.specs.Table.{known_error};
+ghost use Rattle.zr_node.specs.Answer.{lacking};
+
 use std::alloc::AllocError;
 use zr_graph::base::ChangeError;
 use zr_log::error::KnownError;
@@ -74,4 +79,30 @@ impl From<KnownError> for NodeFailure {
             KnownError::NoMemory => NodeFailure::NoMemory,
         }
     }
+}
+
+/// Why an event isn't handled where memory ran out: it is refused for what was found without memory, if anything was.
+pub fn lacking(found: Option<NodeError>) -> NodeFailure
+    ensures { result ≡ lacking found }
+{
+    match found {
+        Some(error) => NodeFailure::Refused(error),
+        None => NodeFailure::NoMemory,
+    }
+}
+
+/// Why a change of another router's log is refused, as the router's own refusal.
+pub fn known_as(refused: Option<KnownError>) -> Option<NodeError>
+    ensures { result ≡ option_map (λ e. known_error e) refused }
+{
+    Some(match refused? {
+        KnownError::Gap { source, has, came } => NodeError::Gap {
+            router: source,
+            has,
+            came,
+        },
+        KnownError::TextLimit { held, more } => NodeError::TextLimit { held, more },
+        KnownError::Worn => NodeError::Worn,
+        KnownError::NoMemory => NodeError::NoMemory,
+    })
 }

@@ -1,6 +1,6 @@
 //! `Node`: a router's state, and what it does with each event.
 
-ghost use Rattle.std.specs.Prelude.{◌≡◌, ℕ, ◌<◌, ◌^◌, ◌+◌, ◌↔◌, true, Some, None, List, OnOk, OnErr, IfOk, IfSome, IfNone, [], length, if◌then◌else◌};
+ghost use Rattle.std.specs.Prelude.{◌≡◌, ℕ, ◌<◌, ◌^◌, ◌+◌, ◌↔◌, true, false, Some, None, List, OnOk, OnErr, IfOk, IfSome, IfNone, [], length, if◌then◌else◌};
 ghost use Rattle.std.specs.Option.{option_map};
 ghost use Rattle.zr_graph.specs.Base.{BaseState, is_newer, after_record};
 ghost use Rattle.zr_local.specs.Clients.{AreByLink};
@@ -12,6 +12,7 @@ ghost use Rattle.zr_msg.specs.declared.decl.Decl.{Decl};
 ghost use Rattle.zr_node_spec.specs.Changes.{changes_of, after_changes, sends_changes};
 ghost use Rattle.zr_node_spec.specs.Snapshots.{sends_step, sends_snap, sends_snapshots};
 ghost use Rattle.zr_node_spec.specs.Tables.{TableState, HaveSameTrees, AreNumbered, link_at, link_to, leads_to_client, leads_to_router, free_link};
+ghost use Rattle.zr_node_spec.specs.Early.{is_early};
 ghost use Rattle.zr_node_spec.specs.Event.{AreLinks, MayCome, Sends, SendsPrefix, Tells, TellsPrefix};
 ghost use Rattle.zr_node_spec.specs.State.{new_node, tables, local_state};
 ghost use Rattle.zr_node_spec.specs.Table.{row, key_of, after, refuses, with_base, with_known};
@@ -25,10 +26,11 @@ mod interests;
 mod lent;
 mod messages;
 mod neighbours;
+mod refusals;
 mod traffic;
 
 use crate::asked::{self, Asked, apply, has_room};
-use crate::failure::NodeFailure;
+use crate::failure::{NodeFailure, lacking};
 use crate::kept::{Before, forget, put_family, put_trees, take_family};
 use crate::links::Links;
 use std::alloc::{AllocError, Global};
@@ -256,7 +258,7 @@ impl Node {
     ///
     /// What the table refuses leaves everything as it was, and so does `Spent`, which comes where memory ran out at an earlier event.
     /// Where memory runs out, a prefix of what is to be sent is appended for each link, and the node is spent from now on: nothing is
-    /// said of its links, records, declarations and logs any more.
+    /// said of its links, records, declarations and logs any more. A refusal that is found without memory is the answer even so.
     pub fn handle(
         &mut self,
         alloc: Global,
@@ -268,6 +270,7 @@ impl Node {
         ensures sends { OnOk result (Sends self.old event.now out.old.items out.new.items) }
         ensures refused { IsAnswered (refusal_of self.old event.now) result }
         ensures spent { (result ≡ Err NodeError.Spent) ↔ (self.old.spent ≡ true) }
+        ensures judged { result ≡ Err NodeError.NoMemory → is_early (refusal_of self.old event.now) ≡ false }
         ensures unchanged { (e : NodeError) → refusal_of self.old event.now ≡ Some e → result ≡ Err e → (self.new ≡ self.old) × (out.new.items ≡ out.old.items) }
         ensures memory { result ≡ Err NodeError.NoMemory → self.new.spent ≡ true }
         ensures prefix { result ≡ Err NodeError.NoMemory → SendsPrefix self.old event.now out.old.items out.new.items }
@@ -316,9 +319,13 @@ impl Node {
         if !self.leads_to_client(link) {
             return Ok(());
         }
-        let key = key.copy(alloc)?;
-        let decl = Decl { kind, key };
-        self.change_rows(alloc, Asked::Declare { link, id, decl }, out)
+        match key.copy(alloc) {
+            Ok(key) => {
+                let decl = Decl { kind, key };
+                self.change_rows(alloc, Asked::Declare { link, id, decl }, out)
+            }
+            Err(AllocError) => Err(lacking(self.refuses_declared(link, id, kind, key))),
+        }
     }
 
     // The client of a link takes back what it has declared.
@@ -359,10 +366,13 @@ impl Node {
         Ok(self.tell(alloc, number, &changes, out)?)
     }
 
-    // Whether what a client asks is refused, found out on a copy.
+    // Whether what a client asks is refused, found out on a copy where it isn't found without memory.
     fn judge(&self, alloc: Global, asked: &Asked) -> Result<(), NodeFailure>
         ensures { IsJudged (refuses_change self.now asked.now) result }
     {
+        if let Some(error) = asked::refusal(&self.local, asked) {
+            return Err(NodeFailure::Refused(error));
+        }
         let asked = asked.copy(alloc)?;
         let mut local = self.local.copy(alloc)?;
         self.judge_on(&mut local, asked)

@@ -7,3 +7,4 @@ pub mod State
 pub mod Table
 pub mod Event
 pub mod Each
+pub mod Early

@@ -11,6 +11,7 @@ use Rattle.zr_msg.specs.declared.msg.Msg.{Msg}
 use Rattle.zr_msg.specs.declared.error.NodeError.{NodeError}
 use Rattle.zr_msg.specs.Peer.{PeerState}
 use Rattle.zr_msg.specs.declared.peer.Role.{Role}
+use Rattle.zr_node_spec.specs.Early.{is_early, needs_no_memory}
 use Rattle.zr_node_spec.specs.Tables.{link_at}
 use Rattle.zr_msg.specs.declared.peer.LinkPeer.{LinkPeer}
 use Rattle.zr_told_spec.specs.Hub.{HubState, hub_refuses}
@@ -21,6 +22,7 @@ use Rattle.zr_port.specs.declared.error.DeliverError.TheVariants as deliver
 use Rattle.zr_wire.specs.Roles.{admits}
 use Rattle.zr_router_queue.specs.declared.link_end.Closing.{Closing}
 use Rattle.zr_router_queue.specs.Tables.{LinkQueue, Tables, new_tables, advanced, replay_from, replay}
+use Rattle.zr_router_core.proofs.Changed.{after_spent}
 use Rattle.zr_router_queue.specs.Ends.{EndState, IsReplay}
 use Rattle.zr_router_queue.specs.Held.{AreSpelled, ComesSpelled}
 use Rattle.zr_router.specs.Before.{message_refusal, open_refusal}
@@ -57,24 +59,32 @@ find_closed link (x ∷ xs) = by (x.queue.link.0 == link.0) (find_closed link xs
     by true ih = refl
     by false ih = ih
 
--- a refusal by the router may need memory
-unjudged : (ruled : Bool) (x : NodeError) → is_judged (node_refusal ruled x) ≡ false
-unjudged true (error.NotDeclared id) = refl
-unjudged true (error.Gap router has came) = refl
-unjudged true (error.TextLimit held more) = refl
-unjudged true (error.NumberTaken id) = refl
-unjudged true (error.TooMany pending) = refl
-unjudged true error.Worn = refl
-unjudged true error.Spent = refl
-unjudged true error.NoMemory = refl
-unjudged false x = refl
+-- a refusal by the router needs memory where the router's own does
+judged_as : (ruled : Bool) (x : NodeError) → is_judged (node_refusal ruled x) ≡ needs_no_memory x
+judged_as true (error.NotDeclared id) = refl
+judged_as true (error.Gap router has came) = refl
+judged_as true (error.TextLimit held more) = refl
+judged_as true (error.NumberTaken id) = refl
+judged_as true (error.TooMany pending) = refl
+judged_as true error.Worn = refl
+judged_as true error.Spent = refl
+judged_as true error.NoMemory = refl
+judged_as false x = refl
 
-router_judged : (ruled : Bool) (o : Option NodeError) (e : DeliverError) → refused_by ruled false o ≡ Some e → is_judged e ≡ true → ⊥
-router_judged ruled None e is judged = cc
-router_judged ruled (Some x) e is judged =
+router_judged : (ruled : Bool) (o : Option NodeError) (e : DeliverError) → is_early o ≡ false → refused_by ruled false o ≡ Some e → is_judged e ≡ true → ⊥
+router_judged ruled None e late is judged = cc
+router_judged ruled (Some x) e late is judged =
     let same : node_refusal ruled x ≡ e = cc in
-    let never : false ≡ true = sym (unjudged ruled x) ∙ ap is_judged same ∙ judged in
+    let never : false ≡ true = sym late ∙ sym (judged_as ruled x) ∙ ap is_judged same ∙ judged in
     cc
+
+-- the router that a list of entries leaves isn't spent
+awake_from : (t : Tables) (h : List Entry) → t.hub.node.spent ≡ false → (replay_from t h).hub.node.spent ≡ false
+awake_from t [] e = e
+awake_from t (x ∷ h) e = awake_from (advanced t x) h (after_spent t.hub.node x.event ∙ e)
+
+pub replay_awake : (me : List ℕ) (h : List Entry) → (replay me h).hub.node.spent ≡ false
+replay_awake me h = awake_from (new_tables me) h refl
 
 module _ (policy : PolicyState) (me : List ℕ) (h : List Entry) (hub : HubState) (ends : List EndState) (r : IsReplay me h hub ends) (link : LinkNo) (msg : Msg) where
   here : (o : Option LinkPeer) → link_at hub.node.links link.0 ≡ o → link_at (replay me h).hub.node.links link.0 ≡ o
@@ -160,15 +170,15 @@ module _ (policy : PolicyState) (me : List ℕ) (h : List Entry) (hub : HubState
         cc
 
     -- and then each refusal is the router's
-    pub message_judged : (e : DeliverError) → is_judged e ≡ true → RefusesMessage policy me h link msg e → ⊥
-    message_judged e judged refused =
+    pub message_judged : is_early (hub_refuses hub (From link msg)) ≡ false → (e : DeliverError) → is_judged e ≡ true → RefusesMessage policy me h link msg e → ⊥
+    message_judged late e judged refused =
         let u = unshut p c at shut is in
         let on : RefusesAt policy (replay me h) h link msg (Some u.0) e = subst (λ o. RefusesAt policy (replay me h) h link msg o e) (here (Some u.0) u.1) refused in
         let there : refuses_on policy (replay me h).hub h link u.0.peer msg ≡ Some e = subst (λ o. RefusesOn policy (replay me h) h link u.0.peer msg o e) (closing None u.2) on in
         let same : refuses_on policy hub h link u.0.peer msg ≡ Some e = subst (λ n. refuses_on policy n h link u.0.peer msg ≡ Some e) (sym r.hub_is) there in
         let node : refuses_on policy hub h link u.0.peer msg ≡ refused_by (not (is_open policy)) false (hub_refuses hub (From link msg)) =
         (none_more (admits u.0.peer.role msg) (peer_denial policy u.0.peer msg) (not (is_open policy)) (is_worn h) u.0.peer.role (hub_refuses hub (From link msg)) u.3).3 in
-        router_judged (not (is_open policy)) (hub_refuses hub (From link msg)) e (sym node ∙ same) judged
+        router_judged (not (is_open policy)) (hub_refuses hub (From link msg)) e late (sym node ∙ same) judged
 
 -- out of memory is no cause of these
 pub never_memory : (policy : PolicyState) (p : Option PeerState) (c : Option Closing) (link : LinkNo) (msg : Msg) (w : Bool) → message_refusal policy p c link msg w ≡ Some deliver.NoMemory → ⊥

@@ -16,6 +16,7 @@ ghost use Rattle.zr_port.specs.declared.error.DeliverError.{DeliverError};
 ghost use Rattle.zr_port.specs.declared.error.DownError.{DownError};
 ghost use Rattle.zr_port.specs.declared.error.UpError.{UpError};
 ghost use Rattle.zr_ring.specs.Taker.{taken, take_calls};
+ghost use Rattle.zr_node_spec.specs.Early.{is_early};
 ghost use Rattle.zr_node_spec.specs.Event.{MayCome, on_link};
 ghost use Rattle.zr_told_spec.specs.Hub.{hub_after, hub_refuses, hub_sends};
 ghost use Rattle.zr_wire.specs.Writing.{IsSpelled};
@@ -23,6 +24,7 @@ ghost use Rattle.zr_router_queue.specs.Ends.{EndState, GoesByRings, IsReplay, ne
 ghost use Rattle.zr_router_queue.specs.History.{is_legal};
 ghost use Rattle.zr_router_queue.specs.Tables.{is_up, new_queue, replay};
 ghost use Rattle.zr_router.specs.Allowed.{AreAllowed, is_allowed};
+ghost use Rattle.zr_router.specs.declared.failure.Failure.{Failure};
 ghost use Rattle.zr_router.specs.Failures.{HasFailed};
 ghost use Rattle.zr_router.specs.Former.{brings_former, was_used};
 ghost use Rattle.zr_router.specs.Glance.{glance};
@@ -725,6 +727,7 @@ impl<B: Naming> Tables<B> {
         ensures sent { IfOk result (λ sent. (to : LinkNo) → on_link to sent.items ≡ hub_sends self.old.hub event.now to) }
         ensures spent { OnOk result (self.new.is_spent ≡ true) }
         ensures failed { IfErr result (λ f. HasFailed (hub_refuses self.old.hub event.now) self.old.is_spent self.new.is_spent f) }
+        ensures late { IfErr result (λ f. f ≡ Failure.NoMemory → self.old.hub.node.spent ≡ false → is_early (hub_refuses self.old.hub event.now) ≡ false) }
     {
         let mut sent = Vec::new(alloc);
         match self.hub.handle(alloc, event, &mut sent) {

@@ -17,6 +17,7 @@ use Rattle.zr_msg.specs.declared.event.Event.{Event}
 use Rattle.zr_msg.specs.declared.msg.Msg.{Msg}
 use Rattle.zr_msg.specs.declared.peer.LinkPeer.{LinkPeer}
 use Rattle.zr_node_spec.specs.Tables.{TableState, is_router, link_at, leads_to_client}
+use Rattle.zr_node_spec.specs.Early.{is_early}
 use Rattle.zr_node_spec.specs.Event.{on_link, Sends, SendsPrefix, Tells, TellsPrefix}
 use Rattle.zr_lists.specs.Prefix.{IsPrefixOf}
 use Rattle.zr_node_spec.specs.State.{NodeState, new_node, tables}
@@ -26,9 +27,11 @@ use Rattle.zr_told_spec.specs.Rows.{Maps, map_on, one_lacks_ids, others, IsAsWan
 use Rattle.zr_told_spec.specs.Told.{ToldMap}
 use Rattle.zr_told_spec.specs.declared.place.Place.{Place}
 use Rattle.zr_told_spec.proofs.Events.{nothing_told}
+use Rattle.zr_node.specs.Answer.{refusal_of}
+use Rattle.zr_node.proofs.Early.{behind_late, worn_late}
 use Rattle.zr_node.proofs.Refusals.{not_memory, not_spent}
 use Rattle.zr_node.proofs.Retold.{told_both, prefix_first, prefix_second}
-use Rattle.zr_router_core.specs.Done.{hub_of, hub_refusal_of, said_on, IsHandled, IsNodeDone, IsToldAll, IsToldOf, IsDoneBoth, IsRefusedBoth, IsDone, answer_of, have_ids}
+use Rattle.zr_router_core.specs.Done.{hub_of, hub_refusal_of, said_on, IsHandled, IsNodeDone, IsToldAll, IsToldOf, IsDoneBoth, IsRefusedBoth, IsDone, IsLacking, IsLasting, IsRoomy, answer_of, have_ids}
 use Rattle.zr_router_core.specs.Places.{AreKeys, changed_places, is_quiet}
 use Rattle.zr_router_core.specs.Ready.{is_own, is_none, tells_nobody, IsToTell}
 use Rattle.zr_router_core.specs.Right.{IsRight, IsSound, IsBefore, spent_as}
@@ -64,6 +67,23 @@ module _ (n : NodeState) (told : Maps) (event : Event) where
 
   allowed_both : refuses n event ≡ None → have_ids n event → hub_refuses (hub_of n told) event ≡ None
   allowed_both h ids = ap (λ (o : Option NodeError). option_or o (cond (one_lacks_ids (tables (after n event)) (after n event).clients) (Some e.Worn) None)) h ∙ ap (λ (b : Bool). cond b (Some e.Worn) None) ids
+
+  -- what is found without memory is the router's own refusal
+  pub early_both : is_early (hub_refuses (hub_of n told) event) ≡ is_early (refuses n event)
+  early_both =
+      let lacks : Bool = one_lacks_ids (tables (after n event)) (after n event).clients in
+      behind_late (refuses n event) (cond lacks (Some e.Worn) None) (worn_late lacks)
+
+  -- whether there are ids for all is asked once the router has handled the event
+  pub roomy : (res : Result (Unit {0}) HubFailure) (now : NodeState) (said all : List (LinkNo × Msg)) → IsHandled n event now said all → IsLasting (one_lacks_ids (tables now) now.clients) res → IsRoomy n event res
+  roomy res now said all h lasts = by res (subst (λ (m : NodeState). IsLasting (one_lacks_ids (tables m) m.clients) res) h.state lasts)
+    where
+      by : (res : Result (Unit {0}) HubFailure) → IsLasting (one_lacks_ids (tables (after n event)) (after n event).clients) res → IsRoomy n event res
+      by (Ok x) k = λ allowed. k
+      by (Err (Refused why)) k =
+          ap (λ (o : Option NodeError). option_or o (cond (one_lacks_ids (tables (after n event)) (after n event).clients) (Some e.Worn) None)) h.allowed
+          ∙ ap (λ (b : Bool). cond b (Some e.Worn) None) k.0 ∙ ap Some (sym k.1)
+      by (Err NoMemory) k = ap is_early h.allowed
 
   -- ---- an event of which nobody is told anything
 
@@ -122,7 +142,7 @@ module _ (n : NodeState) (told : Maps) (event : Event) where
         let a = calm.none all in
         record { allowed = allowed_both h.allowed calm.ids; state = h.state; map = a.map; sends = both_sent said all all h.sends a.sends }
     nobody_done (Err (Refused why)) now said all h = record { node = record { refused = refused_both why h.refused; state = h.state; sends = h.sends }; same = refl }
-    nobody_done (Err NoMemory) now said all h = first_prefix said all h
+    nobody_done (Err NoMemory) now said all h = record { late = h.late; sends = first_prefix said all h.sends }
 
     pub nobody_stays : (res : Result (Unit {0}) HubFailure) (now : NodeState) (said all : List (LinkNo × Msg)) → IsNodeDone n event res now said all → OnOk res (IsSound now told)
     nobody_stays (Ok x) now said all h = subst (λ (m : NodeState). IsSound m told) (sym h.state) (record { awake = after_spent n event ∙ sound.awake; right = calm.right })
@@ -133,7 +153,7 @@ module _ (n : NodeState) (told : Maps) (event : Event) where
   pub told_done : {E : Type 0} (res : Result (Unit {0}) E) (now : NodeState) (now_told : Maps) (said mid all : List (LinkNo × Msg)) → IsHandled n event now said mid → have_ids n event
       → IsToldOf (tables (after n event)) event res told now_told mid all → IsDone n told event (answer_of res) now now_told said all
   told_done (Ok x) now now_told said mid all h ids a = record { allowed = allowed_both h.allowed ids; state = h.state; map = a.map; sends = both_sent said mid all h.sends a.sends }
-  told_done (Err x) now now_told said mid all h ids p = second_prefix said mid all h.sends p
+  told_done (Err x) now now_told said mid all h ids p = record { late = ap is_early h.allowed; sends = second_prefix said mid all h.sends p }
 
   pub told_stays : {E : Type 0} (res : Result (Unit {0}) E) (now : NodeState) (now_told : Maps) (said mid all : List (LinkNo × Msg)) (places : Option (List Place)) → IsSound n told → IsHandled n event now said mid
       → IsToTell (tables (after n event)) event places (λ k. map_on told k) → IsToldOf (tables (after n event)) event res told now_told mid all → OnOk (answer_of res) (IsSound now now_told)
@@ -145,14 +165,12 @@ module _ (n : NodeState) (told : Maps) (event : Event) where
   -- the router refused it, or ran out of memory
   pub first_failed : (f : HubFailure) (now : NodeState) (said all : List (LinkNo × Msg)) → IsNodeDone n event (Err f) now said all → IsDone n told event (Err f) now told said all
   first_failed (Refused why) now said all h = record { node = record { refused = refused_both why h.refused; state = h.state; sends = h.sends }; same = refl }
-  first_failed NoMemory now said all h = first_prefix said all h
+  first_failed NoMemory now said all h = record { late = h.late; sends = first_prefix said all h.sends }
 
   -- it was judged to be refused, or memory ran out before anything changed
-  pub judged : (why : NodeError) (said : List (LinkNo × Msg)) → hub_refuses (hub_of n told) event ≡ Some why → IsDone n told event (Err (Refused why)) n told said said
-  judged why said h = record { node = record { refused = h; state = refl; sends = refl }; same = refl }
-
-  pub nothing_done : (now : NodeState) (now_told : Maps) (said : List (LinkNo × Msg)) → IsDone n told event (Err NoMemory) now now_told said said
-  nothing_done now now_told said = record { sent = []; appended = sym (append-nil said); each = λ to. (said_on n told event to.0, refl) }
+  pub judged : (f : HubFailure) (said : List (LinkNo × Msg)) → IsRoomy n event (Err f) → IsDone n told event (Err f) n told said said
+  judged (Refused why) said h = record { node = record { refused = h; state = refl; sends = refl }; same = refl }
+  judged NoMemory said h = record { late = h; sends = record { sent = []; appended = sym (append-nil said); each = λ to. (said_on n told event to.0, refl) } }
 
 keys_items : (o : Option (Vec Place Global)) → IfSome o (λ v. AreKeys v.items) → IfSome (option_map (λ v. v.items) o) (λ qs. AreKeys qs)
 keys_items None h = tt
@@ -256,6 +274,14 @@ error why = Err why
 same_error : (x y : NodeError) → error x ≡ error y → x ≡ y
 same_error x y h = cc
 
+-- where memory ran out in a router that wasn't spent, no refusal is found without memory
+pub node_lacking : (n : NodeState) (event : Event) (why : NodeError) (said all : List (LinkNo × Msg)) → n.spent ≡ false → why ≡ e.NoMemory → (error why ≡ error e.NoMemory → is_early (refusal_of n event) ≡ false)
+    → (error why ≡ error e.NoMemory → SendsPrefix n event said all) → IsLacking n event (λ k. sends n event (record { 0 = k })) said all
+node_lacking n event why said all awake is late prefix = record {
+  late = sym (ap (λ (b : Bool). is_early (cond b (Some e.Spent) (refuses n event))) awake) ∙ late (ap error is);
+  sends = prefix (ap error is);
+}
+
 -- what is refused is neither that memory ran out nor that it ran out before
 pub refused_else : (n : NodeState) (told : Maps) (event : Event) (why : NodeError) → hub_refuses (hub_of n told) event ≡ Some why → (error why ≡ error e.NoMemory → ⊥) × (error why ≡ error e.Spent → ⊥)
 refused_else n told event why h = (
@@ -292,6 +318,12 @@ module _ (n : NodeState) (told : Maps) (spent : Bool) (self : HubState) (view_is
 
   pub self_prefix : (said all : List (LinkNo × Msg)) → TellsPrefix (said_on n told event) said all → HubSendsPrefix self event said all
   self_prefix said all t = subst (λ (h : HubState). HubSendsPrefix h event said all) whole (hub_prefix n told sound event said all t)
+
+  -- and no refusal is found without memory
+  pub not_early : is_early (refuses n event) ≡ false → is_early (hub_refusal_of self event) ≡ false
+  not_early late =
+      ap (λ (h : HubState). is_early (hub_refusal_of h event)) (sym whole)
+      ∙ ap (λ (b : Bool). is_early (cond b (Some e.Spent) (hub_refuses (hub_of n told) event))) sound.awake ∙ early_both n told event ∙ late
 
   -- what is refused is not that memory ran out
   pub never_memory : (why : NodeError) → hub_refusal_of self event ≡ Some why → error e.NoMemory ≡ error why → ⊥

@@ -77,6 +77,11 @@ known_after n event i (Ok x) now said all d l = subst (λ (m : NodeState). IsOf 
 known_after n event i (Err (Refused why)) now said all d l = subst (λ (m : NodeState). IsOf m.clients i) (sym d.state) l.before
 known_after n event i (Err NoMemory) now said all d l = tt
 
+-- or has failed
+pub known_failed : (cs : List ClientInterests) (i : Interested) (f : HubFailure) → IsOf cs i → IsKnown cs i (Err f)
+known_failed cs i (Refused why) of = of
+known_failed cs i NoMemory of = tt
+
 pub known_handled : (n : NodeState) (event : Event) (i : Interested) (now : NodeState) (said all : List (LinkNo × Msg)) → IsHandled n event now said all → IsStillKnown n event i → IsOf now.clients i
 known_handled n event i now said all d l = subst (λ (m : NodeState). IsOf m.clients i) (sym d.state) l.later
 

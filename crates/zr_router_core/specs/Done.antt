@@ -6,7 +6,8 @@ use Rattle.zr_msg.specs.declared.error.NodeError.TheVariants as e
 use Rattle.zr_msg.specs.declared.event.Event.{Event}
 use Rattle.zr_msg.specs.declared.msg.Msg.{Msg}
 use Rattle.zr_node_spec.specs.Tables.{TableState}
-use Rattle.zr_node_spec.specs.Event.{Sends, SendsPrefix, Tells, TellsPrefix}
+use Rattle.zr_node_spec.specs.Early.{is_early}
+use Rattle.zr_node_spec.specs.Event.{Sends, Tells, TellsPrefix}
 use Rattle.zr_node_spec.specs.State.{NodeState, tables}
 use Rattle.zr_node_spec.specs.Table.{sends, after, refuses}
 use Rattle.zr_told_spec.specs.Hub.{HubState, by_link, hub_refuses, sends_told, told_after}
@@ -34,10 +35,15 @@ pub record IsRefused (refusal : Option NodeError) (why : NodeError) (n now : Nod
   pub state : now ≡ n
   pub sends : all ≡ said
 
+-- memory ran out: a prefix was sent on each link, and if the router refuses the event that isn't found without memory
+pub record IsLacking (n : NodeState) (event : Event) (sent : ℕ → List Msg) (said all : List (LinkNo × Msg)) : Type 0 where
+  pub late : is_early (refuses n event) ≡ false
+  pub sends : TellsPrefix sent said all
+
 abbrev pub IsNodeDone : NodeState → Event → Result (Unit {0}) HubFailure → NodeState → List (LinkNo × Msg) → List (LinkNo × Msg) → Type 0
 IsNodeDone n event (Ok x) now said all = IsHandled n event now said all
 IsNodeDone n event (Err (Refused why)) now said all = IsRefused (refuses n event) why n now said all
-IsNodeDone n event (Err NoMemory) now said all = SendsPrefix n event said all
+IsNodeDone n event (Err NoMemory) now said all = IsLacking n event (λ k. sends n event (record { 0 = k })) said all
 
 -- ---- what the clients are told, by the tables after the event
 
@@ -68,7 +74,7 @@ pub record IsRefusedBoth (n : NodeState) (told : Maps) (event : Event) (why : No
 abbrev pub IsDone : NodeState → Maps → Event → Result (Unit {0}) HubFailure → NodeState → Maps → List (LinkNo × Msg) → List (LinkNo × Msg) → Type 0
 IsDone n told event (Ok x) now now_told said all = IsDoneBoth n told event now now_told said all
 IsDone n told event (Err (Refused why)) now now_told said all = IsRefusedBoth n told event why now now_told said all
-IsDone n told event (Err NoMemory) now now_told said all = TellsPrefix (said_on n told event) said all
+IsDone n told event (Err NoMemory) now now_told said all = IsLacking n event (said_on n told event) said all
 
 -- ---- whether ids last, asked before the event
 
@@ -79,7 +85,7 @@ have_ids n event = one_lacks_ids (tables (after n event)) (after n event).client
 abbrev pub IsRoomy : NodeState → Event → Result (Unit {0}) HubFailure → Type 0
 IsRoomy n event (Ok x) = refuses n event ≡ None → have_ids n event
 IsRoomy n event (Err (Refused why)) = hub_refuses (hub_of n []) event ≡ Some why
-IsRoomy n event (Err NoMemory) = Unit {0}
+IsRoomy n event (Err NoMemory) = is_early (refuses n event) ≡ false
 
 -- whether there are ids for all that is wanted now: it is refused for want of one
 abbrev pub IsLasting : Bool → Result (Unit {0}) HubFailure → Type 0

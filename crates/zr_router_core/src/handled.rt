@@ -1,8 +1,8 @@
 //! What the router itself does with an event.
 
-ghost use Rattle.std.specs.Prelude.{◌≡◌, false};
+ghost use Rattle.std.specs.Prelude.{◌≡◌, false, Err};
 ghost use Rattle.zr_node_spec.specs.Event.{MayCome};
-ghost use Rattle.zr_router_core.specs.Done.{IsNodeDone};
+ghost use Rattle.zr_router_core.specs.Done.{IsNodeDone, IsRoomy};
 
 use crate::failure::HubFailure;
 use std::alloc::Global;
@@ -27,5 +27,15 @@ pub fn handle(
         Ok(()) => Ok(()),
         Err(NodeError::NoMemory) => Err(HubFailure::NoMemory),
         Err(error) => Err(HubFailure::Refused(error)),
+    }
+}
+
+/// Why an event isn't handled where memory ran out before the router was asked: it is refused, if that is found without memory.
+pub fn lacking(node: &Node, event: &Event) -> HubFailure
+    ensures { IsRoomy node.now event.now (Err result) }
+{
+    match node.refuses(event) {
+        Some(error) => HubFailure::Refused(error),
+        None => HubFailure::NoMemory,
     }
 }

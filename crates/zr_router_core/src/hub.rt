@@ -1,10 +1,11 @@
 //! `Hub`: a router with its clients, and what it does with each event.
 
-ghost use Rattle.std.specs.Prelude.{◌≡◌, ◌<◌, ◌^◌, ◌↔◌, not, true, Some, List, length, IfOk, OnOk};
+ghost use Rattle.std.specs.Prelude.{◌≡◌, ◌<◌, ◌^◌, ◌↔◌, not, true, false, Some, List, length, IfOk, OnOk};
 ghost use Rattle.std.specs.Option.{option_map};
 ghost use Rattle.zr_local.specs.Clients.{AreByLink};
 ghost use Rattle.zr_local.specs.Rows.{AreInOrder};
 ghost use Rattle.zr_node_spec.specs.Tables.{link_at, link_to, free_link};
+ghost use Rattle.zr_node_spec.specs.Early.{is_early};
 ghost use Rattle.zr_node_spec.specs.Event.{AreLinks, MayCome};
 ghost use Rattle.zr_told_spec.specs.Hub.{new_hub, hub_after, HubSends, HubSendsPrefix};
 ghost use Rattle.zr_node.specs.Answer.{IsAnswered};
@@ -157,7 +158,8 @@ impl Hub {
     ///
     /// What is refused leaves everything as it was, and so does `Spent`, which comes where memory ran out at an earlier event. `Worn` comes
     /// too where a client wants to be told of more than there are ids. Where memory runs out, a prefix of what is to be sent is appended for
-    /// each link, and the router is spent from now on: nothing is said of it, and of what its clients were told, any more.
+    /// each link, and the router is spent from now on: nothing is said of it, and of what its clients were told, any more. A refusal that is
+    /// found without memory is the answer even so.
     pub fn handle(
         &mut self,
         alloc: Global,
@@ -169,6 +171,7 @@ impl Hub {
         ensures sends { OnOk result (HubSends self.old event.now out.old.items out.new.items) }
         ensures refused { IsAnswered (hub_refusal_of self.old event.now) result }
         ensures spent { (result ≡ Err NodeError.Spent) ↔ (self.old.node.spent ≡ true) }
+        ensures judged { result ≡ Err NodeError.NoMemory → is_early (hub_refusal_of self.old event.now) ≡ false }
         ensures unchanged { (e : NodeError) → hub_refusal_of self.old event.now ≡ Some e → result ≡ Err e → (self.new ≡ self.old) × (out.new.items ≡ out.old.items) }
         ensures memory { result ≡ Err NodeError.NoMemory → self.new.node.spent ≡ true }
         ensures prefix { result ≡ Err NodeError.NoMemory → HubSendsPrefix self.old event.now out.old.items out.new.items }

@@ -8,8 +8,8 @@ ghost use Rattle.zr_router_core.specs.Done.{IsRoomy, IsLasting, have_ids};
 
 use crate::counts::{count_foreign, more_decls, most_interests};
 use crate::failure::HubFailure;
-use crate::handled::handle;
-use std::alloc::Global;
+use crate::handled::{handle, lacking};
+use std::alloc::{AllocError, Global};
 use zr_id::link::LinkNo;
 use zr_msg::error::NodeError;
 use zr_msg::event::Event;
@@ -28,7 +28,10 @@ pub fn judge(alloc: Global, node: &Node, event: &Event) -> Result<(), HubFailure
     ensures { IsRoomy node.now event.now result }
 {
     if may_lack(node, event) {
-        return judge_copy(alloc, node.copy(alloc)?, event);
+        return match node.copy(alloc) {
+            Ok(copy) => judge_copy(alloc, copy, event),
+            Err(AllocError) => Err(lacking(node, event)),
+        };
     }
     Ok(())
 }

@@ -12,7 +12,7 @@ ghost use Rattle.zr_router_core.specs.Places.{AreKeys, changed_places};
 ghost use Rattle.zr_router_core.specs.Right.{AreOrdered, IsBefore, IsSound};
 
 use crate::failure::HubFailure;
-use crate::handled::handle;
+use crate::handled::{handle, lacking};
 use crate::places::changed_places;
 use crate::quiet::{is_own, leaves_interests, tells_nobody};
 use crate::room::judge;
@@ -49,7 +49,7 @@ pub fn on_event(
     know_order(node);
     match changed_places(alloc, node, event) {
         Ok(places) => on_change(alloc, node, told, interested, event, &places, out),
-        Err(AllocError) => Err(HubFailure::NoMemory),
+        Err(AllocError) => Err(lacking(node, event)),
     }
 }
 

@@ -12,9 +12,9 @@ ghost use Rattle.zr_node.specs.Steps.{interest_part};
 
 use super::Node;
 use crate::asked::answer;
-use crate::failure::NodeFailure;
+use crate::failure::{NodeFailure, lacking};
 use crate::interests::live;
-use std::alloc::Global;
+use std::alloc::{AllocError, Global};
 use zr_id::link::LinkNo;
 use zr_key::key::KeyExpr;
 use zr_local::interest::Interest;
@@ -38,8 +38,10 @@ impl Node {
         if !self.leads_to_client(link) {
             return Ok(());
         }
-        let interest = live(alloc, future, id, kinds, key, aggregate)?;
-        self.note(link, id, interest)
+        match live(alloc, future, id, kinds, key, aggregate) {
+            Ok(interest) => self.note(link, id, interest),
+            Err(AllocError) => Err(lacking(self.refuses_noted(link, id, future, key))),
+        }
     }
 
     // The client's interest of an id ends, if it has one.

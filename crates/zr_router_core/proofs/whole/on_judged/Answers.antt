@@ -1,7 +1,8 @@
 use Rattle.std.proofs.Common.{Err, subst}
 use Rattle.zr_router_core.specs.Done.{IsNodeDone}
 use Rattle.zr_router_core.specs.declared.failure.HubFailure.{HubFailure}
-use Rattle.zr_router_core.proofs.Joined.{to_tell_now, now_done, now_sound, first_prefix}
+use Rattle.zr_router_core.specs.declared.failure.HubFailure.TheVariants.{NoMemory}
+use Rattle.zr_router_core.proofs.Joined.{to_tell_now, now_done, now_sound, first_failed}
 use Rattle.zr_router_core.proofs.Lasting.{known_told, known_handled}
 use Rattle.zr_router_core.proofs.whole.on_judged.Goals as goal
 
@@ -24,7 +25,7 @@ returns-in-Ok-clause-sound c =
 
 pub returns-in-Err-NoMemory-clause-done : goal.returns-in-Err-NoMemory-clause-done
 returns-in-Err-NoMemory-clause-done c =
-    first_prefix c.args.node.now c.args.told.now c.args.event.now c.args.out.now.items c.handle.new.out.items
+    first_failed c.args.node.now c.args.told.now c.args.event.now NoMemory c.handle.new.node c.args.out.now.items c.handle.new.out.items
     (subst (λ (f : HubFailure). IsNodeDone c.args.node.now c.args.event.now (Err f) c.handle.new.node c.args.out.now.items c.handle.new.out.items) c.in-Err-NoMemory.field-0-is c.in-Err-NoMemory.ensures)
 
 pub returns-in-Ok-clause-known : goal.returns-in-Ok-clause-known

@@ -1,12 +1,8 @@
-use Rattle.std.proofs.Common.{◌≡◌, List, [], refl, sym, ap, ◌∙◌}
+use Rattle.std.proofs.Common.{[]}
 use Rattle.std.specs.Ordering.{nat_cmp}
-use Rattle.zr_lists.specs.Ascending.{put, without}
 use Rattle.zr_lists.specs.Place.{IsAt, IsGap}
-use Rattle.zr_lists.proofs.Puts.{ascending_put, put_in}
-use Rattle.zr_local.specs.Interests.{interest_id}
-use Rattle.zr_local.specs.Clients.{AreByLink, client_link, interests_on, kept, forgotten, clients_weight, weight_but}
+use Rattle.zr_local.specs.Clients.{AreByLink, client_link}
 use Rattle.zr_local.specs.declared.interest.ClientInterests.{ClientInterests}
-use Rattle.zr_local.specs.declared.interest.Interest.{Interest}
 use Rattle.zr_local.proofs.Live.{kept_there, kept_ascend, inserted_is, inserted_ascend, in_either, on_ok}
 use Rattle.zr_local.proofs.clients.Clients.keep.Goals as goal
 

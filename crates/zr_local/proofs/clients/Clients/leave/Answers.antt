@@ -1,13 +1,8 @@
-use Rattle.std.proofs.Common.{◌≡◌, List, [], refl, sym, ap, ◌∙◌}
 use Rattle.std.specs.Ordering.{nat_cmp}
-use Rattle.zr_lists.specs.Ascending.{put, without}
-use Rattle.zr_lists.specs.Place.{IsAt, IsGap}
+use Rattle.zr_lists.specs.Place.{IsAt}
 use Rattle.zr_lists.proofs.Puts.{ascending_without, removed_at}
 use Rattle.zr_lists.proofs.Order.{nat_order}
-use Rattle.zr_local.specs.Interests.{interest_id}
-use Rattle.zr_local.specs.Clients.{AreByLink, client_link, interests_on, kept, forgotten, clients_weight, weight_but}
-use Rattle.zr_local.specs.declared.interest.ClientInterests.{ClientInterests}
-use Rattle.zr_local.specs.declared.interest.Interest.{Interest}
+use Rattle.zr_local.specs.Clients.{client_link}
 use Rattle.zr_local.proofs.clients.Clients.leave.Goals as goal
 
 pub invariant_of-self : goal.invariant_of-self

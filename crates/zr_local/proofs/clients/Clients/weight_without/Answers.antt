@@ -1,4 +1,4 @@
-use Rattle.std.proofs.Common.{◌≡◌, ◌+◌, ◌≤◌, List, sym, ap, arith}
+use Rattle.std.proofs.Common.{◌+◌, ◌≤◌, List, sym, ap, arith}
 use Rattle.std.specs.Ordering.{nat_cmp}
 use Rattle.zr_lists.specs.Place.{IsAt, IsGap}
 use Rattle.zr_local.specs.Clients.{client_link, clients_weight}

@@ -9,7 +9,8 @@ use Rattle.zr_node.specs.Done.{IsLeft, IsDone}
 use Rattle.zr_node.specs.Requests.{refuses_asker}
 use Rattle.zr_push.specs.Routes.{AreRoutes}
 use Rattle.zr_node.specs.Steps.{request_part, with_table}
-use Rattle.zr_node.proofs.Requests.{request_failed, request_left}
+use Rattle.zr_node.proofs.Done.{nothing_sent}
+use Rattle.zr_node.proofs.Requests.{request_failed, request_late, request_left}
 use Rattle.zr_node.proofs.node.Node.ask.Goals as goal
 
 pub returns-in_err-asked : goal.returns-in_err-asked
@@ -53,3 +54,8 @@ invariant_of-self-2 c =
       trees = subst (λ (o : Option (List RecordState)). IfSome o (λ r. r ≡ c.self.inside.base.records)) (sym c.put_trees.ensures) c.in_ok-trees.ensures.trees;
       routes = subst (λ (t : TableState). AreRoutes c.ask-asked.new.routes t) c.lend-tables.ensures c.ask-asked.ensures.routes;
     }
+
+pub returns-in_err-trees : goal.returns-in_err-trees
+returns-in_err-trees c =
+    nothing_sent (request_part c.args.self.now c.args.from.link.0 c.args.named c.args.from.number c.args.target c.args.content.now) c.from_residual.result _ c.args.out.now.items c.from_residual.ensures.1
+    (request_late c.args.self.now c.args.from.link.0 c.args.from.number c.args.named c.args.target c.args.content.now c.requires.allowed)

@@ -2,9 +2,9 @@ use Rattle.std.proofs.Common.{◌≡◌, ℕ, List, sym, ap, subst, ◌∙◌}
 use Rattle.zr_log.specs.Known.{position}
 use Rattle.zr_node_spec.specs.State.{NodeState}
 use Rattle.zr_node.specs.Steps.{asked_part}
-use Rattle.zr_node.specs.declared.failure.NodeFailure.TheVariants.{NoMemory}
-use Rattle.zr_node.proofs.Done.{failed}
-use Rattle.zr_node.proofs.Rows.{asked_failed, judge_failed, rows_prefix, rows_told, rows_left, rows_allowed}
+use Rattle.zr_node.proofs.Early.{change_late}
+use Rattle.zr_node.proofs.Retold.{nothing_told}
+use Rattle.zr_node.proofs.Rows.{asked_failed, judge_failed, rows_failed, rows_prefix, rows_told, rows_left, rows_allowed}
 use Rattle.zr_node.proofs.node.Node.change_rows.Goals as goal
 
 pub returns-in_err-judge : goal.returns-in_err-judge
@@ -16,7 +16,7 @@ returns-in_err-changes c =
 
 pub returns-in_err-tell : goal.returns-in_err-tell
 returns-in_err-tell c =
-    failed (asked_part c.args.self.now c.args.asked) NoMemory c.from_residual-in_err-tell.result c.tell.new.self c.args.out.now.items c.tell.new.out.items c.from_residual-in_err-tell.ensures.1
+    rows_failed c.args.self.now c.args.asked c.from_residual-in_err-tell.result c.tell.new.self c.args.out.now.items c.tell.new.out.items c.from_residual-in_err-tell.ensures.1 c.in_ok-changes.ensures.refused
     (rows_prefix c.args.self.now c.args.asked c.in_ok-changes.changes.gone.items c.in_ok-changes.changes.came.items c.in_ok-changes.ensures.gone c.in_ok-changes.ensures.came c.apply.new.self c.args.out.now.items c.tell.new.out.items c.in_ok-changes.ensures.state c.in_err-tell.ensures.prefix)
 
 pub returns : goal.returns
@@ -29,3 +29,6 @@ returns c =
       state = rows_left c.args.self.now c.args.asked c.in_ok-changes.changes.gone.items c.in_ok-changes.changes.came.items c.in_ok-changes.ensures.gone c.in_ok-changes.ensures.came c.apply.new.self c.tell.new.self c.in_ok-changes.ensures.state c.in_ok-tell.ensures.state;
       sends = rows_told c.args.self.now c.args.asked c.in_ok-changes.changes.gone.items c.in_ok-changes.changes.came.items c.in_ok-changes.ensures.gone c.in_ok-changes.ensures.came c.apply.new.self c.args.out.now.items c.tell.new.out.items c.in_ok-changes.ensures.state c.in_ok-tell.ensures.sends;
     }
+
+pub returns-then-not-has_room : goal.returns-then-not-has_room
+returns-then-not-has_room c = record { late = change_late c.args.self.now c.args.asked c.in_ok-changes.ensures.refused; sends = nothing_told (asked_part c.args.self.now c.args.asked).sends c.args.out.now.items }

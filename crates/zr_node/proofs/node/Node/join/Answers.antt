@@ -6,9 +6,10 @@ use Rattle.zr_node_spec.specs.State.{NodeState}
 use Rattle.zr_node_spec.specs.Table.{joined, with_base}
 use Rattle.zr_node.specs.Done.{IsLeft, IsDone}
 use Rattle.zr_node.specs.Steps.{join_part}
-use Rattle.zr_node.specs.declared.failure.NodeFailure.TheVariants.{NoMemory}
+use Rattle.zr_msg.specs.declared.peer.Role.TheVariants.{Router}
 use Rattle.zr_node.proofs.Answers.{change_failed}
-use Rattle.zr_node.proofs.Done.{failed}
+use Rattle.zr_node.proofs.Done.{lacked}
+use Rattle.zr_node.proofs.Early.{up_late}
 use Rattle.zr_node_spec.specs.Tables.{TableState}
 use Rattle.zr_node.proofs.Remembering.{whole_anew}
 use Rattle.zr_node.proofs.node.Node.join.Goals as goal
@@ -27,7 +28,7 @@ returns-in_err-flood_up c =
     let now : NodeState = with_base node c.join.new.base in
     let of : AreOf node c.as_slice.result.now = record { right = c.self.invariant.links; same = c.as_slice.ensures.value } in
     subst (λ (m : NodeState). IsDone (join_part m c.args.link c.args.peer.now) c.from_residual-in_err-flood_up.result now c.args.out.now.items c.flood_up.new.out.items) c.self.view_is
-    (failed (join_part node c.args.link c.args.peer.now) NoMemory c.from_residual-in_err-flood_up.result now c.args.out.now.items c.flood_up.new.out.items c.from_residual-in_err-flood_up.ensures.1
+    (lacked (join_part node c.args.link c.args.peer.now) c.from_residual-in_err-flood_up.result now c.args.out.now.items c.flood_up.new.out.items c.from_residual-in_err-flood_up.ensures.1 (up_late node.base Router)
     (c.in_err-flood_up.ensures.err node c.args.peer.now of (c.in_ok-join.ensures.ok ∙ ap (λ (l : LinkedState). joined c.self.inside.base l) c.own_link.ensures)))
 
 pub returns : goal.returns

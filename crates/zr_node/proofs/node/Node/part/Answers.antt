@@ -8,9 +8,9 @@ use Rattle.zr_node_spec.specs.State.{NodeState}
 use Rattle.zr_node_spec.specs.Table.{parted, sends_parted, with_base}
 use Rattle.zr_node.specs.Done.{IsLeft, IsDone}
 use Rattle.zr_node.specs.Steps.{ended_on, parting_part, with_table}
-use Rattle.zr_node.specs.declared.failure.NodeFailure.TheVariants.{NoMemory}
 use Rattle.zr_node.proofs.Answers.{change_failed}
-use Rattle.zr_node.proofs.Done.{failed}
+use Rattle.zr_node.proofs.Done.{lacked}
+use Rattle.zr_node.proofs.Early.{parting_late}
 use Rattle.zr_node.proofs.Requests.{table_is}
 use Rattle.zr_node.proofs.Retold.{told_both, prefix_first, prefix_second}
 use Rattle.zr_node_spec.specs.Tables.{TableState}
@@ -31,7 +31,7 @@ returns-in_err-flood_down c =
     let now : NodeState = with_table (with_base node c.part.new.base) c.ends_of.new.pending in
     let of : AreOf node c.as_slice.result.now = record { right = c.self.invariant.links; same = c.as_slice.ensures.value } in
     subst (λ (m : NodeState). IsDone (parting_part m c.args.link.0 c.args.peer.now) c.from_residual-in_err-flood_down.result now c.args.out.now.items c.flood_down.new.out.items) c.self.view_is
-    (failed (parting_part node c.args.link.0 c.args.peer.now) NoMemory c.from_residual-in_err-flood_down.result now c.args.out.now.items c.flood_down.new.out.items c.from_residual-in_err-flood_down.ensures.1
+    (lacked (parting_part node c.args.link.0 c.args.peer.now) c.from_residual-in_err-flood_down.result now c.args.out.now.items c.flood_down.new.out.items c.from_residual-in_err-flood_down.ensures.1 (parting_late node.base Router)
     (prefix_second (sends_ends node.pending node.held c.args.link.0) (sends_parted node c.args.link.0 c.args.peer.now Router) (parting_part node c.args.link.0 c.args.peer.now).sends c.args.out.now.items (λ to. refl) c.ends_of.new.out.items c.flood_down.new.out.items
     c.in_ok-ends_of.ensures.ok (c.in_err-flood_down.ensures.err node c.args.peer.now of (c.in_ok-part.ensures.ok ∙ ap (λ (p : PeerState). parted c.self.inside.base p.id) c.peer.view_is))))
 
@@ -40,7 +40,7 @@ returns-in_err-ends_of c =
     let node : NodeState = record { links = c.self.inside.links; base = c.self.inside.base; rows = c.self.inside.local.rows; clients = c.self.inside.local.clients; known = c.self.inside.known; pending = c.self.inside.pending.rows; held = c.self.inside.pending.held; spent = c.self.inside.spent } in
     let now : NodeState = with_table (with_base node c.part.new.base) c.ends_of.new.pending in
     subst (λ (m : NodeState). IsDone (parting_part m c.args.link.0 c.args.peer.now) c.from_residual-in_err-ends_of.result now c.args.out.now.items c.ends_of.new.out.items) c.self.view_is
-    (failed (parting_part node c.args.link.0 c.args.peer.now) NoMemory c.from_residual-in_err-ends_of.result now c.args.out.now.items c.ends_of.new.out.items c.from_residual-in_err-ends_of.ensures.1
+    (lacked (parting_part node c.args.link.0 c.args.peer.now) c.from_residual-in_err-ends_of.result now c.args.out.now.items c.ends_of.new.out.items c.from_residual-in_err-ends_of.ensures.1 (parting_late node.base Router)
     (prefix_first (sends_ends node.pending node.held c.args.link.0) (sends_parted node c.args.link.0 c.args.peer.now Router) (parting_part node c.args.link.0 c.args.peer.now).sends c.args.out.now.items (λ to. refl) c.ends_of.new.out.items
     c.in_err-ends_of.ensures.err))
 

@@ -10,8 +10,7 @@ use Rattle.zr_node_spec.proofs.Links.{found_number}
 use Rattle.zr_node.specs.Done.{IsLeft, IsDone}
 use Rattle.zr_push.specs.Routes.{AreRoutes}
 use Rattle.zr_node.specs.Steps.{push_part}
-use Rattle.zr_node.specs.declared.failure.NodeFailure.TheVariants.{NoMemory}
-use Rattle.zr_node.proofs.Done.{failed}
+use Rattle.zr_node.proofs.Done.{lacked, nothing_sent}
 use Rattle.zr_node.proofs.Pushed.{at_itself}
 use Rattle.zr_node.proofs.node.Node.push.Goals as goal
 
@@ -21,7 +20,7 @@ returns-in_err-pushed c =
     let up = subst (λ (t : TableState). AreNumbered t.links) (sym c.lend-tables.ensures) c.self.invariant.links.ascending in
     let at = subst (λ (t : TableState). link_at t.links c.in-Some.from.link.0 ≡ Some c.in-Some.from) (sym c.lend-tables.ensures) (at_itself c.self.inside.links c.args.link.0 c.in-Some.from c.in-Some.ensures) in
     subst (λ (m : NodeState). IsDone (push_part m c.args.link.0 c.args.tree c.args.content.now) c.from_residual-in_err-pushed.result node c.args.out.now.items c.push-pushed.new.out.items) c.self.view_is
-    (failed (push_part node c.args.link.0 c.args.tree c.args.content.now) NoMemory c.from_residual-in_err-pushed.result node c.args.out.now.items c.push-pushed.new.out.items c.from_residual-in_err-pushed.ensures.1
+    (lacked (push_part node c.args.link.0 c.args.tree c.args.content.now) c.from_residual-in_err-pushed.result node c.args.out.now.items c.push-pushed.new.out.items c.from_residual-in_err-pushed.ensures.1 refl
     (subst (λ (k : ℕ). TellsPrefix (sends_push (tables node) k c.args.tree c.args.content.now) c.args.out.now.items c.push-pushed.new.out.items) (found_number node.links c.args.link.0 c.in-Some.from (sym c.in-Some.ensures))
     (subst (λ (t : TableState). TellsPrefix (sends_push t c.in-Some.from.link.0 c.args.tree c.args.content.now) c.args.out.now.items c.push-pushed.new.out.items) c.lend-tables.ensures
     (IfErr-at_err (λ e. TellsPrefix (sends_push c.lend-tables.result c.in-Some.from.link.0 c.args.tree c.args.content.now) c.args.out.now.items c.push-pushed.new.out.items) c.in_err-pushed.was (c.push-pushed.ensures.err up at)))))
@@ -59,3 +58,6 @@ invariant_of-self-2 c =
       trees = subst (λ (o : Option (List RecordState)). IfSome o (λ r. r ≡ c.self.inside.base.records)) (sym c.put_trees.ensures) c.in_ok-trees.ensures.trees;
       routes = subst (λ (t : TableState). AreRoutes c.push-pushed.new.routes t) c.lend-tables.ensures c.push-pushed.ensures.routes;
     }
+
+pub returns-in_err-trees : goal.returns-in_err-trees
+returns-in_err-trees c = nothing_sent (push_part c.args.self.now c.args.link.0 c.args.tree c.args.content.now) c.from_residual.result _ c.args.out.now.items c.from_residual.ensures.1 refl

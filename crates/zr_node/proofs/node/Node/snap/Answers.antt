@@ -1,6 +1,7 @@
-use Rattle.std.proofs.Common.{◌≡◌, List, None, true, refl, sym, ap, subst, ◌∙◌, rules, arith}
+use Rattle.std.proofs.Common.{◌≡◌, List, None, true, Err, refl, sym, ap, subst, ◌∙◌, rules, arith}
 use Rattle.std.proofs.lemmas.Grind.{common_steps}
-use Rattle.zr_log.specs.Known.{KnownState, after_snap, is_newer, refuses_snap}
+use Rattle.zr_log.specs.Known.{KnownState, IsRefusedAs, after_snap, is_newer, refuses_snap}
+use Rattle.zr_log.specs.declared.known.Taken.{Taken}
 use Rattle.zr_msg.specs.declared.decl.Decl.{Decl}
 use Rattle.zr_msg.specs.declared.msg.Msg.TheVariants.{Snap}
 use Rattle.zr_node_spec.specs.Tables.{TableState, HaveSameTrees, leads_to_router}
@@ -8,9 +9,9 @@ use Rattle.zr_node_spec.specs.State.{NodeState, tables}
 use Rattle.zr_node_spec.specs.Table.{with_known}
 use Rattle.zr_node.specs.Done.{IsLeft, IsDone}
 use Rattle.zr_node.specs.Steps.{snap_part}
-use Rattle.zr_node.specs.declared.failure.NodeFailure.TheVariants.{NoMemory}
-use Rattle.zr_node.proofs.Done.{failed}
-use Rattle.zr_node.proofs.News.{new_is, news_taken}
+use Rattle.zr_node.proofs.Done.{lacked}
+use Rattle.zr_node.proofs.Early.{snap_late}
+use Rattle.zr_node.proofs.News.{new_is, news_failed, news_taken, refused_again}
 use Rattle.zr_node.proofs.node.Node.snap.Goals as goal
 
 pub returns-in_err-pass_on-in-New : goal.returns-in_err-pass_on-in-New
@@ -20,7 +21,7 @@ returns-in_err-pass_on-in-New c =
     let next : is_newer node.known c.args.source c.args.number ≡ true = new_is _ (sym c.in-New.is ∙ c.in_ok-snap.ensures.answer) in
     let same : HaveSameTrees (tables node) (tables (with_known node c.snap.new.self)) = record { links = refl; base = refl } in
     subst (λ (m : NodeState). IsDone (snap_part m c.args.link.0 c.args.source c.args.number c.args.decls.now) c.from_residual-in_err-pass_on-in-New.result c.pass_on.new.self c.args.out.now.items c.pass_on.new.out.items) c.self.view_is
-    (failed (snap_part node c.args.link.0 c.args.source c.args.number c.args.decls.now) NoMemory c.from_residual-in_err-pass_on-in-New.result c.pass_on.new.self c.args.out.now.items c.pass_on.new.out.items c.from_residual-in_err-pass_on-in-New.ensures.1
+    (lacked (snap_part node c.args.link.0 c.args.source c.args.number c.args.decls.now) c.from_residual-in_err-pass_on-in-New.result c.pass_on.new.self c.args.out.now.items c.pass_on.new.out.items c.from_residual-in_err-pass_on-in-New.ensures.1 (snap_late node c.args.link.0 c.args.source c.args.number c.args.decls.now)
     (c.in_err-pass_on-in-New.ensures.snap_prefix (tables node) c.args.link.0 c.args.number c.args.decls.now same c.self.invariant.links.ascending router next c.requires))
 
 pub returns-in_ok-pass_on-in-New : goal.returns-in_ok-pass_on-in-New
@@ -70,3 +71,14 @@ invariant_of-self-in-New c =
       trees = c.self.invariant.trees;
       routes = c.clear.ensures now;
     }
+
+pub returns-in_err-snap : goal.returns-in_err-snap
+returns-in_err-snap c =
+    let node : NodeState = record { links = c.self.inside.links; base = c.self.inside.base; rows = c.self.inside.local.rows; clients = c.self.inside.local.clients; known = c.self.inside.known; pending = c.self.inside.pending.rows; held = c.self.inside.pending.held; spent = c.self.inside.spent } in
+    let ds : List Decl = c.args.decls.now in
+    let router : leads_to_router node.links c.args.link.0 ≡ true = subst (λ (m : NodeState). leads_to_router m.links c.args.link.0 ≡ true) (sym c.self.view_is) (sym c.leads_to_router.ensures ∙ c.if-not-leads_to_router.false) in
+    subst (λ (m : NodeState). IsDone (snap_part m c.args.link.0 c.args.source c.args.number ds) c.from_residual.result (with_known node c.snap.new.self) c.args.out.now.items c.args.out.now.items) c.self.view_is
+    (news_failed node c.args.link.0 c.args.source (after_snap node.known c.args.source c.args.number ds) (is_newer node.known c.args.source c.args.number) (Snap c.args.source c.args.number ds) (refuses_snap node.known c.args.source c.args.number ds)
+    router c.in_err-snap.field-0.0 c.from_residual.result (with_known node c.snap.new.self) c.args.out.now.items c.from_residual.ensures.1
+    (refused_again (refuses_snap node.known c.args.source c.args.number ds) c.in_err-snap.field-0.0 (subst (λ (xs : List Decl). IsRefusedAs {X = Taken} (refuses_snap node.known c.args.source c.args.number xs) (Err c.in_err-snap.field-0.0)) c.as_slice.ensures c.in_err-snap.ensures.refused))
+    (λ e. snap_late node c.args.link.0 c.args.source c.args.number ds) (ap (λ (k : KnownState). with_known node k) c.in_err-snap.ensures.unchanged))

@@ -2,20 +2,22 @@ use Rattle.std.proofs.Common.{◌≡◌, ◌<◌, not, true, false, List, [], �
 use Rattle.zr_hist.specs.Words.{list_of, most_entries}
 use Rattle.zr_msg.specs.declared.event.Event.TheVariants.{From}
 use Rattle.zr_port.specs.Adding.{IsAdmitted}
+use Rattle.zr_port.specs.declared.error.DeliverError.TheVariants as deliver
+use Rattle.zr_node_spec.specs.Early.{is_early}
 use Rattle.zr_node_spec.specs.Event.{on_link}
 use Rattle.zr_router_queue.specs.Ends.{EndState, GoesByRings, IsReplay}
 use Rattle.zr_router_queue.specs.Tables.{replay}
 use Rattle.zr_router.specs.Allowed.{is_allowed}
 use Rattle.zr_router.specs.Before.{message_refusal}
 use Rattle.zr_router.specs.Former.{tells_former}
-use Rattle.zr_told_spec.specs.Hub.{hub_refuses}
+use Rattle.zr_told_spec.specs.Hub.{HubState, hub_refuses}
 use Rattle.zr_router.specs.Failures.{HasFailed}
 use Rattle.zr_router.specs.declared.failure.Failure.{Failure}
 use Rattle.zr_router.specs.declared.failure.Failure.TheVariants.{Refused}
 use Rattle.zr_router.specs.Refusals.{RefusesMessage, is_worn, node_refusal}
 use Rattle.zr_access.specs.Rules.{is_open}
 use Rattle.zr_router.proofs.Entered.{added, added_beside, handled}
-use Rattle.zr_router.proofs.Refused.{closed_at, message_allowed, message_admitted, message_comes, message_judged, message_node, message_refused, message_room, never_memory}
+use Rattle.zr_router.proofs.Refused.{closed_at, message_allowed, message_admitted, message_comes, message_judged, message_node, message_refused, message_room, never_memory, node_never_memory, replay_awake}
 use Rattle.zr_router.proofs.tables.Tables.deliver.Goals as goal
 
 pub returns-in-Some-clause-refused : goal.returns-in-Some-clause-refused
@@ -197,25 +199,15 @@ returns-in-Err-NoMemory-clause-judged g c =
     let shut = c.closing_of-closing.ensures ∙ ap (λ xs. closed_at xs c.args.link) c.as_slice.ensures.value in
     let none : message_refusal pol p k c.args.link c.args.msg (is_worn h) ≡ None =
     ap (λ b. message_refusal pol p k c.args.link c.args.msg b) w ∙ ap (λ z. message_refusal z p k c.args.link c.args.msg c.in-Ok.worn) (sym l.ruled) ∙ sym c.refuses_message.ensures ∙ c.in_default-refuses_message.is in
-    λ unspent x judged refused is. message_judged pol me h l.hub l.ends.items r c.args.link c.args.msg p k at shut none x judged (subst (λ z. RefusesMessage pol me z c.args.link c.args.msg x) (sym c.look.ensures.kept) refused)
+    let awake : l.hub.node.spent ≡ false = ap (λ (x : HubState). x.node.spent) r.hub_is ∙ replay_awake me h in
+    let late : is_early (hub_refuses l.hub (From c.args.link c.args.msg)) ≡ false = c.in-Err-NoMemory.ensures.late c.in-Err-NoMemory.field-0-is awake in
+    λ unspent x judged refused is. message_judged pol me h l.hub l.ends.items r c.args.link c.args.msg p k at shut none late x judged (subst (λ z. RefusesMessage pol me z c.args.link c.args.msg x) (sym c.look.ensures.kept) refused)
 
 pub returns-in-Err-Refused-clause-judged : goal.returns-in-Err-Refused-clause-judged
-returns-in-Err-Refused-clause-judged g c =
-    let t = c.args.self.now in
-    let me = g.B.Naming.me in
-    let pol = g.B.Naming.policy in
-    let l = c.look.new.self in
-    let h = list_of l.kept in
-    let open_now : l.is_spent ≡ false = c.look.ensures.same.2 ∙ sym c.in-Ok.ensures.spent in
-    let r : IsReplay me h l.hub l.ends.items = l.replayed open_now in
-    let w : is_worn h ≡ c.in-Ok.worn = ap (λ x. is_worn x) c.look.ensures.kept ∙ sym c.in-Ok.ensures.worn in
-    let p = c.peer_at-peer.result in
-    let k = c.closing_of-closing.result in
-    let at = c.peer_at-peer.ensures in
-    let shut = c.closing_of-closing.ensures ∙ ap (λ xs. closed_at xs c.args.link) c.as_slice.ensures.value in
-    let none : message_refusal pol p k c.args.link c.args.msg (is_worn h) ≡ None =
-    ap (λ b. message_refusal pol p k c.args.link c.args.msg b) w ∙ ap (λ z. message_refusal z p k c.args.link c.args.msg c.in-Ok.worn) (sym l.ruled) ∙ sym c.refuses_message.ensures ∙ c.in_default-refuses_message.is in
-    λ unspent x judged refused is. message_judged pol me h l.hub l.ends.items r c.args.link c.args.msg p k at shut none x judged (subst (λ z. RefusesMessage pol me z c.args.link c.args.msg x) (sym c.look.ensures.kept) refused)
+returns-in-Err-Refused-clause-judged g c = λ unspent x judged refused is.
+    let told : c.node_refusal.result ≡ node_refusal (not c.is_open.result) c.in-Err-Refused.error = rw c.in-Err-Refused.field-0-is at c.node_refusal.ensures in
+    let memory : c.node_refusal.result ≡ deliver.NoMemory = cc in
+    node_never_memory (not c.is_open.result) c.in-Err-Refused.error (sym told ∙ memory)
 
 pub returns-in-Err-clause-judged : goal.returns-in-Err-clause-judged
 returns-in-Err-clause-judged g c =
@@ -233,7 +225,7 @@ returns-in-Err-clause-judged g c =
     let shut = c.closing_of-closing.ensures ∙ ap (λ xs. closed_at xs c.args.link) c.as_slice.ensures.value in
     let none : message_refusal pol p k c.args.link c.args.msg (is_worn h) ≡ None =
     ap (λ b. message_refusal pol p k c.args.link c.args.msg b) w ∙ ap (λ z. message_refusal z p k c.args.link c.args.msg c.in-Ok.worn) (sym l.ruled) ∙ sym c.refuses_message.ensures ∙ c.in_default-refuses_message.is in
-    λ unspent x judged refused is. message_judged pol me h l.hub l.ends.items r c.args.link c.args.msg p k at shut none x judged (subst (λ z. RefusesMessage pol me z c.args.link c.args.msg x) (sym c.look.ensures.kept) refused)
+    λ unspent x judged refused is. message_admitted pol me h l.hub l.ends.items r c.args.link c.args.msg p k at shut none c.in-Ok-handle.ensures.handled.1 x (subst (λ z. RefusesMessage pol me z c.args.link c.args.msg x) (sym c.look.ensures.kept) refused)
 
 pub returns-in-Some-clause-judged : goal.returns-in-Some-clause-judged
 returns-in-Some-clause-judged g c =
