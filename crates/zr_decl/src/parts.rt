@@ -1,10 +1,7 @@
 //! What the bytes of declarations and interests are made of.
 
-pub(crate) const DECLARE: u8 = 0x1E;
-
-pub(crate) const INTEREST: u8 = 0x19;
-
-pub(crate) const D_KEYEXPR: u8 = 0x00;
+/// The id of an INTEREST, in its header (Zenoh protocol 1.0, "INTEREST").
+pub const INTEREST: u8 = 0x19;
 
 pub(crate) const U_KEYEXPR: u8 = 0x01;
 

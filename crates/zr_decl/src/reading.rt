@@ -10,9 +10,8 @@ ghost use Rattle.zr_decl.specs.Writing.{ToldFits};
 
 use crate::declared::Declared;
 use crate::parts::{
-    ANSWERS, D_FINAL, D_KEYEXPR, D_QUERYABLE, D_SUBSCRIBER, D_TOKEN, DECLARE, INFO, MAPPING,
-    MOST_TEXT, NAMED, NODE_ID, QOS, TIMESTAMP, U_KEYEXPR, U_QUERYABLE, U_SUBSCRIBER, U_TOKEN,
-    UNDECLARED_KEY,
+    ANSWERS, D_FINAL, D_QUERYABLE, D_SUBSCRIBER, D_TOKEN, INFO, MAPPING, MOST_TEXT, NAMED, NODE_ID,
+    QOS, TIMESTAMP, U_KEYEXPR, U_QUERYABLE, U_SUBSCRIBER, U_TOKEN, UNDECLARED_KEY,
 };
 use std::alloc::{AllocError, Global};
 use zr_bytes::{ByteString, Cursor, ReadError};
@@ -21,7 +20,7 @@ use zr_format_spec::header::ID;
 use zr_format_spec::read_extensions;
 use zr_key::key::KeyExpr;
 use zr_msg::msg::Msg;
-use zr_wirekey::{Scopes, read_key, read_parts};
+use zr_wirekey::{D_KEYEXPR, DECLARE, Scopes, read_key, read_parts};
 
 /// The declaration at the front (Zenoh protocol 1.0, "DECLARE"), of a sender that declared `theirs` to a receiver that declared `ours`. An
 /// interest that it answers is passed over. `Ignored` is for the end of what an interest asked for. What was told can be written.

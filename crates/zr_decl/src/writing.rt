@@ -6,8 +6,8 @@ ghost use Rattle.zr_bytes.specs.Writing.{KeepsFront};
 ghost use Rattle.zr_decl.specs.Writing.{Fits, writes_some, writes_declare, writes_keyed, writes_queryable, writes_complete, writes_undeclared, writes_final, writes_restriction, options_of, writes_interest, writes_end, writes_decl};
 
 use crate::parts::{
-    AGGREGATE, COMPLETE, D_FINAL, D_QUERYABLE, D_SUBSCRIBER, D_TOKEN, DECLARE, INFO, INTEREST,
-    NAMED, RESTRICTED, U_QUERYABLE, U_SUBSCRIBER, U_TOKEN,
+    AGGREGATE, COMPLETE, D_FINAL, D_QUERYABLE, D_SUBSCRIBER, D_TOKEN, INFO, INTEREST, NAMED,
+    RESTRICTED, U_QUERYABLE, U_SUBSCRIBER, U_TOKEN,
 };
 use std::alloc::AllocError;
 use zr_bytes::{all_or_nothing, put_zint};
@@ -15,7 +15,7 @@ use zr_ext::{Content, Ext, write_chain};
 use zr_format_spec::header::header_byte;
 use zr_key::key::KeyExpr;
 use zr_msg::msg::Msg;
-use zr_wirekey::write_key;
+use zr_wirekey::{DECLARE, write_key};
 
 /// Appends a message that declares, tells or asks (Zenoh protocol 1.0, "DECLARE" and "INTEREST"). Keys are written whole. An interest has
 /// kinds of four bits, and is in what is declared now or later. Where memory runs out nothing is appended.

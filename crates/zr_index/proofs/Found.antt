@@ -6,6 +6,7 @@ use Rattle.std.specs.declared.cmp.Ordering.{Ordering}
 use Rattle.std.proofs.lemmas.List.Folds.{list_any-append}
 use Rattle.std.proofs.lemmas.Bool.{or_parts}
 use Rattle.std.proofs.lemmas.List.{reverse-append}
+use Rattle.std.proofs.Math.Bool.{and-false}
 use Rattle.zr_key.specs.Expression.{Chunk}
 use Rattle.zr_key.specs.Key.{chunks, chunk_of, expression_of}
 use Rattle.zr_match.specs.Table.{Signs, place, next_row, table, chunk_signs, IsRow}
@@ -80,22 +81,18 @@ abbrev pub IsBlank : {X : Type 0} → (List X → Bool) → List X → Type 0
 IsBlank f [] = f [] ≡ false
 IsBlank f (y ∷ b) = (f (y ∷ b) ≡ false) × IsBlank f b
 
-pub and_false : (b : Bool) → (b && false) ≡ false
-and_false true = refl
-and_false false = refl
-
 blank_here : {X : Type 0} (f : List X → Bool) (b : List X) → IsBlank f b → f b ≡ false
 blank_here f [] h = h
 blank_here f (y ∷ b) h = h.0
 
 blank_place : (gx gy e oy ox g : Bool) → cond gx (false || (oy && false)) (cond gy (e && (false || (ox && false))) (g && false)) ≡ false
-blank_place true gy e oy ox g = and_false oy
-blank_place false true e oy ox g = ap (λ z. e && z) (and_false ox) ∙ and_false e
-blank_place false false e oy ox g = and_false g
+blank_place true gy e oy ox g = and-false oy
+blank_place false true e oy ox g = ap (λ z. e && z) (and-false ox) ∙ and-false e
+blank_place false false e oy ox g = and-false g
 
 module _ {X : Type 0} (s : Signs X) where
   blank_next : (x : X) (f : List X → Bool) (b : List X) → IsBlank f b → IsBlank (next_row s x f) b
-  blank_next x f [] h = ap (λ z. s.is_gap x && z) h ∙ and_false (s.is_gap x)
+  blank_next x f [] h = ap (λ z. s.is_gap x && z) h ∙ and-false (s.is_gap x)
   blank_next x f (y ∷ b) h =
       let rest = blank_next x f b h.1 in (
         (λ i. place s x y (blank_here f b h.1 i) (h.0 i) (blank_here (next_row s x f) b rest i))
@@ -166,14 +163,6 @@ pub put_step : (b o r : Bool) → (cond b true o || r) ≡ (o || (b || r))
 put_step true true r = refl
 put_step true false r = refl
 put_step false o r = refl
-
-pub or_false : (b : Bool) → (b || false) ≡ b
-or_false true = refl
-or_false false = refl
-
-pub or_assoc : (a b c : Bool) → ((a || b) || c) ≡ (a || (b || c))
-or_assoc true b c = refl
-or_assoc false b c = refl
 
 -- what is found from the root on is what meets the key
 pub finds_meeting : {V : Type 0} (cmp : V → V → Ordering) (key : List ℕ) (ps : Pairs V) (v : V) → finds cmp [] key ps v ≡ list_any (λ p. meets_key key p.0 && is_eq (cmp p.1 v)) ps

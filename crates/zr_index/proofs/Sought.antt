@@ -14,6 +14,7 @@ use Rattle.std.proofs.lemmas.Map.{lookup-none}
 use Rattle.std.proofs.lemmas.Map.Entries.{none_past_head, lookup_head, lookup_tail}
 use Rattle.std.proofs.lemmas.Map.Keys.{IsDistinct-tail}
 use Rattle.std.proofs.lemmas.Map.Lookups.{exact_bytes}
+use Rattle.std.proofs.Math.Bool.{and-false}
 use Rattle.zr_lists.proofs.Truths.{same_test}
 use Rattle.zr_key.proofs.Spelling.{same_bytes}
 use Rattle.zr_key.specs.Expression.{Chunk, Pieces}
@@ -24,7 +25,7 @@ use Rattle.zr_match.proofs.Plain.{bare_chunk}
 use Rattle.zr_index.specs.declared.node.Node.{Node}
 use Rattle.zr_index.specs.Pairs.{pairs, is_of}
 use Rattle.zr_index.specs.Walk.{onto, finds, finds_below, finds_in, finds_sought, seeks_plain, seeks_chunk}
-use Rattle.zr_index.proofs.Found.{Along, along, IsBlank, and_false, blank_found}
+use Rattle.zr_index.proofs.Found.{Along, along, IsBlank, blank_found}
 
 -- where a row has a mark, the next sign of the second pattern goes together with x nowhere; and it has no gap
 abbrev pub IsApart : {X : Type 0} → Signs X → X → (List X → Bool) → List X → Type 0
@@ -37,7 +38,7 @@ module _ {X : Type 0} (s : Signs X) where
 
   where_marked : (g across : Bool) → (across ≡ true → g ≡ false) → (g && across) ≡ false
   where_marked g true h = ap (λ z. z && true) (h refl)
-  where_marked g false h = and_false g
+  where_marked g false h = and-false g
 
   pub apart_blank : (f : List X → Bool) (x : X) → s.is_gap x ≡ false → (b : List X) → IsApart s x f b → IsBlank (next_row s x f) b
   apart_blank f x no_gap [] h = ap (λ z. z && f []) no_gap

@@ -22,6 +22,8 @@ use Rattle.zr_lists.proofs.Options.{not_there}
 use Rattle.zr_node_spec.specs.Tables.{is_router, link_to, free_link, leads_to_client}
 use Rattle.zr_node_spec.specs.State.{new_link}
 use Rattle.zr_node_spec.specs.Table.{rows_left, after}
+use Rattle.zr_node_spec.proofs.FreeLink.{free_is_free}
+use Rattle.zr_node_spec.proofs.LinksStay.{links_from}
 use Rattle.zr_local.specs.Rows.{left}
 use Rattle.zr_world_spec.specs.World.{Tagged, RouterState, EndState, ClientState, End, Ends, Routers, Clients, WorldState, with_routers, with_clients, with_ends, new_router, new_client, with_router, with_client, router_of, client_of, end_of, is_end, put_end, with_end, with_wire, lifted, lowered, new_end, is_up, is_unbroken, is_taken, sent}
 use Rattle.zr_world_spec.specs.Acts.{having_told, peer_of}
@@ -29,7 +31,7 @@ use Rattle.zr_world_spec.specs.Moments.{Numbered}
 use Rattle.zr_world_spec.specs.Sound.{IsSound}
 use Rattle.zr_world_spec.proofs.Names.{names, value_new, read_kept, read_after}
 use Rattle.zr_world_spec.proofs.Ends.{ends, read_with_end, keep_with_end, read_put_end, keep_changed}
-use Rattle.zr_world_spec.proofs.Links.{free_is_free, link_to_with, link_to_apart}
+use Rattle.zr_world_spec.proofs.Links.{link_to_with, link_to_apart}
 use Rattle.zr_world_spec.proofs.Clients.{SameClients, there_same, client_was}
 use Rattle.zr_world_spec.proofs.Cases.{w_client, w_up, w_down, w_handle, w_sent, free_name}
 use Rattle.zr_law_settled.proofs.Spreading.{Name}
@@ -38,7 +40,6 @@ use Rattle.zr_law_settled.proofs.Quiet.{no_end, passes_there}
 use Rattle.zr_law_settled.proofs.Moving.{up_at, unbroken_at}
 use Rattle.zr_law_settled.proofs.Links.{AreKnown, linked_to, is_at}
 use Rattle.zr_law_settled.proofs.Changes.{links_known}
-use Rattle.zr_law_settled.proofs.Heard.{links_from}
 use Rattle.zr_law_settled.proofs.Ends.{other_end}
 use Rattle.zr_law_settled.proofs.ClientRows.{ClientsHold, EndsStay}
 use Rattle.zr_law_declared.specs.Declared.{stands_by, stands}

@@ -1,6 +1,6 @@
 -- The log of a router by its acts (`LogHolds`): as many changes as the router counts, and they lead to the set of its rows. The set follows from the
 -- rows alone; that the router counts each change is shown act by act (`acts_count`).
-use Rattle.std.proofs.Common.{◌≡◌, ◌+◌, ◌≤◌, ℕ, Bool, true, false, cond, not, List, [], ◌∷◌, ◌++◌, length, map, Option, Some, None, is_some, refl, sym, ap, ◌∙◌, subst, arith}
+use Rattle.std.proofs.Common.{◌≡◌, ◌+◌, ◌≤◌, ℕ, Bool, true, false, cond, not, List, [], ◌∷◌, ◌++◌, length, Option, Some, None, is_some, refl, sym, ap, ◌∙◌, subst, arith}
 use Rattle.std.specs.Prelude.{◌==◌, nat_lt, unwrap_or, IfSome, filter}
 use Rattle.std.specs.List.{fold}
 use Rattle.std.specs.Option.{option_map_or}
@@ -30,7 +30,7 @@ use Rattle.zr_lists.proofs.Filters.{filter_none}
 use Rattle.zr_lists.proofs.Options.{not_there}
 use Rattle.zr_lists.proofs.Elements.{in_each}
 use Rattle.zr_log_set.proofs.Decls.{decl_order, has_all}
-use Rattle.zr_local.specs.Rows.{decls_of, declared_set}
+use Rattle.zr_local.specs.Rows.{declared_set}
 use Rattle.zr_local.specs.declared.row.Row.{Row}
 use Rattle.zr_log.specs.Log.{Change, changed, known}
 use Rattle.zr_log.specs.Known.{KnownState, position, decls, with_log, is_next, is_newer}
@@ -38,6 +38,7 @@ use Rattle.zr_node_spec.specs.Tables.{leads_to_router}
 use Rattle.zr_node_spec.specs.Changes.{changes}
 use Rattle.zr_node_spec.specs.State.{NodeState}
 use Rattle.zr_node_spec.specs.Table.{able_kind, rows_declared, rows_undeclared, rows_left, row, key_of, known_step, known_snap, after}
+use Rattle.zr_node_spec.proofs.Changes.{no_changes, rows_lead}
 use Rattle.zr_world_spec.specs.World.{RouterState, WorldState, router_of, with_router, new_router, is_taken}
 use Rattle.zr_world_spec.specs.Acts.{outcome, weighing, hearing, having_told, up_event, peer_of}
 use Rattle.zr_world_spec.specs.Moments.{Numbered, Moment, beginning, went, onward, reached}
@@ -47,7 +48,6 @@ use Rattle.zr_world_spec.proofs.Names.{value_after, value_new}
 use Rattle.zr_world_spec.proofs.Cases.{free_name, for_router, for_client, for_link, for_up, for_break, for_down, for_declare, for_undeclare, interest_says, uninterest_says, publish_says, get_says, reply_says, end_says, for_handle, for_take, for_mark, for_show}
 use Rattle.zr_law_settled.proofs.Spreading.{Name}
 use Rattle.zr_law_settled.proofs.Positions.{position_with, position_changes}
-use Rattle.zr_law_settled.proofs.Values.{rows_lead}
 use Rattle.zr_law_settled.proofs.Logs.{knows_logs, logs_of}
 use Rattle.zr_law_settled.proofs.Agreeing.{logs_agree}
 use Rattle.zr_law_settled.proofs.Goes.{Goes, goes_at}
@@ -61,9 +61,6 @@ use Rattle.zr_law_declared.specs.Logs.{rows_at, Logged, logged_by, log_of, LogsA
 kept_all : (ds : List Decl) → filter (λ d. not (has ds d)) (set_of ds) ≡ []
 kept_all ds = filter_none (λ d. not (has ds d)) (set_of ds)
     (in_each (λ d. not (has ds d) ≡ false) (set_of ds) (λ d i. ap not (sym (has_all ds d) ∙ in_any (λ e. is_eq (decl_cmp e d)) (set_of ds) d i (is_itself decl_cmp decl_order d))))
-
-no_changes : (rows : List Row) → changes rows rows ≡ []
-no_changes rows = ap (λ ds. map (λ d. record { added = false; decl = d }) ds ++ map (λ d. record { added = true; decl = d }) ds) (kept_all (decls_of rows))
 
 -- ---- an event
 

@@ -31,7 +31,7 @@ use Rattle.zr_guarantee.specs.Meaning.{Declares, meaning}
 use Rattle.zr_guarantee.specs.Broker.{attached_by, is_attached, Standing, stands_then, standing_by, standing}
 use Rattle.zr_world_spec.proofs.Names.{names, value_new, read_after}
 use Rattle.zr_world_spec.proofs.Ends.{ends, keep_with_end, read_put_end, read_changed, keep_changed}
-use Rattle.zr_world_spec.proofs.Clients.{SameClients, idle_client, same_clients, same_received, there_same, client_was}
+use Rattle.zr_world_spec.proofs.Clients.{SameClients, idle_client, same_clients, same_received, there_same, client_was, same_home}
 use Rattle.zr_world_spec.proofs.Cases.{free_name, on_router, on_client, on_link, on_up, on_break, on_down, on_declare, on_undeclare, on_said, on_weighed, on_handle, on_take, for_router, for_client, for_link, for_up, for_break, for_down, for_declare, for_undeclare, Says, Weighs, interest_says, uninterest_says, publish_says, get_says, reply_says, end_says, for_handle, for_take, for_mark, for_show}
 use Rattle.zr_law_settled.proofs.Spreading.{Name}
 use Rattle.zr_law_settled.proofs.Moving.{unbroken_at}
@@ -113,12 +113,6 @@ with_others change s k.Token k.Sub = refl
 with_others change s k.Token k.Able = refl
 with_others change s k.Token k.Full = refl
 with_others change s k.Token k.Token = refl
-
-same_home : (s : ClientState) (kind : Kind) (ids : List ℕ) → (with_ids s kind ids).router ≡ s.router
-same_home s k.Sub ids = refl
-same_home s k.Able ids = refl
-same_home s k.Full ids = refl
-same_home s k.Token ids = refl
 
 -- ---- one more act
 

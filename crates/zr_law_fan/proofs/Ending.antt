@@ -15,11 +15,8 @@ use Rattle.zr_world_spec.specs.World.{Tagged, EndState, End, Ends, WorldState, e
 use Rattle.zr_world_spec.specs.Acts.{Outcome, outcome}
 use Rattle.zr_world_spec.specs.Next.{Done, lesser, ends_where, first_where, can_handle, can_take, step_at, next, with_more, world_after, run_steps, all_done}
 use Rattle.zr_world_spec.proofs.Ends.{end_found}
+use Rattle.zr_world_spec.proofs.Sound.{said_first}
 use Rattle.zr_law_fan.specs.Samples.{Move, Handling, Taking, at_end, under_way, can_go}
-
--- what was said first, and then the rest
-abbrev said_first : List ReportLine → List ReportLine × WorldState → Done
-said_first lines y = Ok (lines ++ y.0, y.1)
 
 abbrev pub HasEnded : ℕ → List Act → List ReportLine × WorldState → Type 0
 HasEnded n acts x = (next x.1 ≡ None) ⊎ (length acts ≡ n)

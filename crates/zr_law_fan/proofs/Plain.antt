@@ -26,7 +26,7 @@ use Rattle.zr_world_spec.specs.Moments.{is_step}
 use Rattle.zr_world_spec.specs.Next.{Done, can_handle, can_take, first_where, step_at, next, with_more, world_after, run_steps, all_done, fan_steps, fan_done}
 use Rattle.zr_world_spec.specs.Sound.{IsSound, AllAreTaken}
 use Rattle.zr_world_spec.proofs.Lines.{all_steps}
-use Rattle.zr_world_spec.proofs.Sound.{act_keeps, next_goes}
+use Rattle.zr_world_spec.proofs.Sound.{act_keeps, next_goes, said_first}
 use Rattle.zr_law_fan.specs.Samples.{Move, Handling, Taking, at_end, under_way, line_of, msg_of, next_moves, can_go, quieted, IsCalm, AreSamples, HaveMoved}
 use Rattle.zr_law_fan.specs.Plain.{HaveGone, FanIsPlain}
 use Rattle.zr_law_fan.proofs.Running.{all_same, samples_go, keys_same, world_is, runs_move}
@@ -94,10 +94,6 @@ next_steps v step found = by (first_where can_handle v.ends) (first_where can_ta
     by (Some e) t k = let same : a.Handle e.0 e.1 ≡ step = cc in ap is_step (sym same)
     by None (Some e) k = let same : a.Take e.0 e.1 ≡ step = cc in ap is_step (sym same)
     by None None k = absurd (false≢true (ap is_some k))
-
--- what was said first, and then the rest
-abbrev said_first : List ReportLine → List ReportLine × WorldState → Done
-said_first lines y = Ok (lines ++ y.0, y.1)
 
 goes_on : (line n : ℕ) (v : WorldState) → IsOn v → is_ok (all_done v line (run_steps line n v)) ≡ true
 unfolding run_steps

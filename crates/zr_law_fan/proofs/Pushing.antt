@@ -1,13 +1,11 @@
 -- What a router sends of a sample are samples.
 use Rattle.std.proofs.Common.{◌≡◌, ℕ, Bool, true, false, cond, ◌&&◌, not, List, [], ◌∷◌, ◌++◌, map, Option, Some, None, refl, ap, ◌∙◌, append-nil}
-use Rattle.std.specs.Prelude.{◌==◌, if◌then◌else◌}
-use Rattle.std.specs.List.{AllByRecursion, flat_map, list_all}
+use Rattle.std.specs.Prelude.{◌==◌}
+use Rattle.std.specs.List.{AllByRecursion, list_all}
 use Rattle.std.specs.Option.{option_map_or}
 use Rattle.std.proofs.lemmas.Bool.{false≢true, and_parts}
 use Rattle.zr_id.specs.Zid.{is_named}
 use Rattle.zr_id.specs.declared.link.LinkNo.{LinkNo}
-use Rattle.zr_tree.specs.Walk.{graph_of}
-use Rattle.zr_tree.specs.Tree.{is_child}
 use Rattle.zr_msg.specs.declared.content.Parts.{Parts}
 use Rattle.zr_msg.specs.declared.msg.Msg.{Msg}
 use Rattle.zr_msg.specs.declared.msg.Msg.TheVariants.{Push}
@@ -15,43 +13,20 @@ use Rattle.zr_msg.specs.declared.event.Event.TheVariants.{From}
 use Rattle.zr_msg.specs.declared.peer.LinkPeer.{LinkPeer}
 use Rattle.zr_msg.specs.declared.peer.Role.{Role}
 use Rattle.zr_msg.specs.declared.peer.Role.TheVariants.{Client, Router}
-use Rattle.zr_log.specs.declared.log.Log.{Log}
-use Rattle.zr_node_spec.specs.Tables.{TableState, is_router, link_at, link_to}
+use Rattle.zr_node_spec.specs.Tables.{link_at, link_to}
 use Rattle.zr_node_spec.specs.Samples.{subscribes, leads_to_subscriber, tree_of, push_to, push_on, push_along}
-use Rattle.zr_node_spec.specs.Snapshots.{is_new_child, snapshot, snapshots_for, snapshots_on, sends_snapshots}
 use Rattle.zr_node_spec.specs.State.{NodeState, tables}
 use Rattle.zr_node_spec.specs.Table.{sends_from, sends}
+use Rattle.zr_node_spec.proofs.NoNewChildren.{no_new_children}
 use Rattle.zr_world_spec.specs.World.{RouterState, End, WorldState, router_of, turned}
 use Rattle.zr_world_spec.specs.Acts.{sends_to}
 use Rattle.zr_law_fan.specs.Samples.{Move, Handling, Taking, tagged, sent_at, sends_over, sends_by, next_moves, msg_of}
 use Rattle.zr_world_spec.specs.Fan.{is_sample}
 use Rattle.zr_orders.proofs.Passes.{append_pass}
 
-no_new_child : (t : TableState) (name : List ℕ) → snapshots_for t t.base.records name ≡ []
-no_new_child t name = none t.known.logs
-  where
-    never : (b : Bool) → (b && not b) ≡ false
-    never true = refl
-    never false = refl
-
-    none : (logs : List Log) → flat_map (λ log. if is_new_child t.base.records t.base.records t.base.me log.source name then snapshot log ∷ [] else []) logs ≡ []
-    none [] = refl
-    none (x ∷ xs) = rw (never (is_child (graph_of t.base.records) x.source t.base.me name)) (none xs)
-
-no_snapshots : (t : TableState) (to : ℕ) → sends_snapshots t t.base.records to ≡ []
-no_snapshots t to = by (link_at t.links to)
-  where
-    on_link : (l : LinkPeer) (role : Role) → (if is_router role then snapshots_for t t.base.records l.peer.id else []) ≡ []
-    on_link l Client = refl
-    on_link l Router = no_new_child t l.peer.id
-
-    by : (o : Option LinkPeer) → option_map_or (λ l. snapshots_on t t.base.records l) o [] ≡ []
-    by None = refl
-    by (Some l) = on_link l l.peer.role
-
 module _ (node : NodeState) (l : LinkNo) (tree : Option (List ℕ)) (content : Parts) where
   sends_only : (to : LinkNo) → sends node (From l (Push tree content)) to ≡ sends_from node l.0 (Push tree content) to.0
-  sends_only to = ap (λ z. sends_from node l.0 (Push tree content) to.0 ++ z) (no_snapshots (tables node) to.0) ∙ append-nil (sends_from node l.0 (Push tree content) to.0)
+  sends_only to = ap (λ z. sends_from node l.0 (Push tree content) to.0 ++ z) (no_new_children (tables node) node.base.records refl to.0) ∙ append-nil (sends_from node l.0 (Push tree content) to.0)
 
   pub goes_to : (name : List ℕ) → sends_to node (From l (Push tree content)) name ≡ option_map_or (λ k. sends_from node l.0 (Push tree content) k.link.0) (link_to node.links name) []
   goes_to name = by (link_to node.links name)

@@ -16,7 +16,7 @@ use Rattle.zr_world_spec.specs.Acts.{Outcome, outcome}
 use Rattle.zr_world_spec.specs.Next.{Done, all_done}
 use Rattle.zr_world_spec.specs.Moments.{Moment, went, is_step}
 use Rattle.zr_world_spec.specs.Sound.{IsSound}
-use Rattle.zr_world_spec.proofs.Sound.{act_keeps}
+use Rattle.zr_world_spec.proofs.Sound.{act_keeps, said_first}
 use Rattle.zr_law_fan.specs.Samples.{Move, Handling, Taking, can_go, at_end, under_way, sent_at, sends_by, next_moves, bare, emptied, IsSameBut, quieted, IsCalm, msg_of, HasMoved, AreSamples, HaveMoved, RunsMove}
 use Rattle.zr_world_spec.specs.Fan.{is_sample}
 use Rattle.zr_law_fan.proofs.Moving.{steps_move}
@@ -108,10 +108,6 @@ one_step w sound calm line other ok = absurd (false≢true ok)
 
 abbrev test : Move → Bool
 test m = is_sample (msg_of m)
-
--- what was said first, and then the rest
-abbrev said_first : List ReportLine → List ReportLine × WorldState → Done
-said_first lines y = Ok (lines ++ y.0, y.1)
 
 -- what a step on a sample leaves
 module _ (w : WorldState) (x : List ReportLine × WorldState) (h : HasMoved (at_start w) (said x)) (samples : AreSamples w) where

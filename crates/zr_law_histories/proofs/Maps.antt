@@ -14,6 +14,7 @@ use Rattle.zr_msg.specs.declared.peer.LinkPeer.{LinkPeer}
 use Rattle.zr_node_spec.specs.Tables.{is_router, is_link, link_at, link_to, leads_to_client}
 use Rattle.zr_node_spec.specs.State.{NodeState, new_link}
 use Rattle.zr_node_spec.specs.Table.{after}
+use Rattle.zr_node_spec.proofs.LinksStay.{links_from}
 use Rattle.zr_told_spec.specs.Hub.{HubState, new_hub, hub_after, hub_sends, hub_refuses}
 use Rattle.zr_told_spec.specs.Laws.{Agrees}
 use Rattle.zr_told_spec.specs.Rows.{map_on}
@@ -21,10 +22,10 @@ use Rattle.zr_told_spec.specs.Told.{Heard, hear, heard}
 use Rattle.zr_told_spec.proofs.Hubs.{start_agrees, heard_on, hub_keeps, hub_forgets}
 use Rattle.zr_world_spec.specs.Sound.{AreUnique}
 use Rattle.zr_world_spec.proofs.Links.{kept, unique_nothing, unique_with, unique_without, link_at_with, link_at_without}
-use Rattle.zr_law_settled.proofs.Heard.{links_from}
 use Rattle.zr_port.specs.declared.entry.Entry.{Entry}
 use Rattle.zr_router_queue.specs.History.{may_come, has_parts, may_be_dropped, may_follow, is_legal_from, renews, brings_up}
 use Rattle.zr_router_queue.specs.Tables.{Tables, new_tables, advanced, replay_from, is_among, is_droppable}
+use Rattle.zr_router_queue.proofs.KeptReplays.{none_is}
 use Rattle.zr_law_told.specs.Maps.{KeepsWhatIsHeard}
 use Rattle.zr_law_histories.specs.Maps.{sends_not_left_out, sent_from, ReplayedMapsAreHeard}
 
@@ -77,10 +78,6 @@ of_each test (l ∷ links) link all among = by (l.0 == link.0) refl among (of_ea
 record Follows (hub : HubState) (sent : ℕ → List Msg) : Type 0 where
   pub unique : AreUnique hub.node.links
   pub keeps : KeepsWhatIsHeard hub sent
-
-none_is : {X : Type 0} (o : Option X) → is_none o ≡ true → o ≡ None
-none_is None h = refl
-none_is (Some x) h = absurd (false≢true h)
 
 unique_then : (node : NodeState) (event : Event) → may_come node event ≡ true → AreUnique node.links → AreUnique (after node event).links
 unique_then node (Up link peer) may unique =

@@ -1,76 +1,23 @@
 -- A text matches what its characters match, and two texts meet where their characters do.
-use Rattle.std.proofs.Common.{◌≡◌, ◌↔◌, ℕ, ◌≤◌, ◌==◌, ◌∷◌, ◌++◌, [], List, Bool, true, false, cond, ◌&&◌, ◌||◌, refl, sym, ap, subst, ◌∙◌, arith, nat_lt, nat_le, map}
+use Rattle.std.proofs.Common.{◌≡◌, ◌↔◌, ℕ, ◌∷◌, ◌++◌, [], List, Bool, true, false, cond, ◌&&◌, ◌||◌, refl, sym, ap, subst, ◌∙◌, nat_lt, nat_le, map}
 use lib.Utf8.{encode, encodes, scalar, scalars}
 use Rattle.std.specs.List.{list_all}
 use Rattle.std.specs.Str.{is_utf8, chars as chars_of_text}
-use Rattle.std.proofs.lemmas.Bool.{and_parts, and_from, leb-true, ltb-true, ltb-false, ne_eqb}
+use Rattle.std.proofs.lemmas.Bool.{and_parts, and_from}
 use Rattle.std.proofs.lemmas.List.Folds.{list_all-append}
-use Rattle.std.proofs.lemmas.Str.{encode_ascii, encodes-chars, scalars-chars, IsUtf8-from_is_utf8}
+use Rattle.std.proofs.lemmas.Str.{encodes-chars, scalars-chars, IsUtf8-from_is_utf8}
 use Rattle.zr_key.specs.Expression.{is_plain, is_key_chunk, is_key, Matches}
 use Rattle.zr_key.specs.Key.{expression_of, IsKeyText}
 use Rattle.zr_match.specs.Match.{Meets}
 use Rattle.zr_match.specs.Laws.{is_scalar}
-use Rattle.zr_match.proofs.Characters.{shape, high_encode}
+use Rattle.zr_match.proofs.Characters.{shape}
 use Rattle.zr_match.proofs.TextKeys.{text_key}
+use Rattle.zr_match.proofs.TextInclusion.{chunk_bytes, matches_there, plain_char, key_bytes}
 use Rattle.zr_law_keys.specs.Laws.{MeetInCharacters}
-use Rattle.zr_law_keys.proofs.Encoding.{chunk_bytes, matches_there, matches_back}
+use Rattle.zr_law_keys.proofs.Encoding.{matches_back}
 use Rattle.zr_law_keys.proofs.Spelling.{expression_chars}
 
 -- ---- keys
-
-high_plain : (b : ℕ) → 128 ≤ b → is_plain b ≡ true
-high_plain b le =
-    let slash : (b == 47) ≡ false = ne_eqb b 47 (λ q. omega arith) in
-    let star : (b == 42) ≡ false = ne_eqb b 42 (λ q. omega arith) in
-    let dollar : (b == 36) ≡ false = ne_eqb b 36 (λ q. omega arith) in
-    let hash : (b == 35) ≡ false = ne_eqb b 35 (λ q. omega arith) in
-    let mark : (b == 63) ≡ false = ne_eqb b 63 (λ q. omega arith) in
-    rw (slash, star, dollar, hash, mark) refl
-
-plain_char : (c : ℕ) → list_all is_plain (encode c) ≡ true → is_plain c ≡ true
-plain_char c h = by (nat_lt c 128) refl
-  where
-    by : (t : Bool) → nat_lt c 128 ≡ t → is_plain c ≡ true
-    by true e =
-        let low : encode c ≡ c ∷ [] = encode_ascii c (ltb-true c 128 e) in
-        (and_parts (is_plain c) true (ap (λ z. list_all is_plain z) (sym low) ∙ h)).0
-    by false e = high_plain c (ltb-false c 128 e)
-
-plain_bytes : (c : ℕ) → is_plain c ≡ true → list_all is_plain (encode c) ≡ true
-plain_bytes c h = by (nat_lt c 128) refl
-  where
-    by : (t : Bool) → nat_lt c 128 ≡ t → list_all is_plain (encode c) ≡ true
-    by true e = ap (λ z. list_all is_plain z) (encode_ascii c (ltb-true c 128 e)) ∙ and_from (is_plain c) true h refl
-    by false e = all_plain (encode c) (high_encode c (ltb-false c 128 e))
-      where
-        all_plain : (u : List ℕ) → list_all (λ b. nat_le 128 b) u ≡ true → list_all is_plain u ≡ true
-        all_plain [] k = refl
-        all_plain (b ∷ u) k =
-            let parts = and_parts (nat_le 128 b) (list_all (λ d. nat_le 128 d) u) k in
-            and_from (is_plain b) (list_all is_plain u) (high_plain b (leb-true 128 b parts.0)) (all_plain u parts.1)
-
--- the key of characters as one of bytes
-key_bytes : (k : List (List ℕ)) → is_key k ≡ true → is_key (map encodes k) ≡ true
-key_bytes [] h = h
-key_bytes (w ∷ k) h = all (w ∷ k) h
-  where
-    one : (w : List ℕ) → is_key_chunk w ≡ true → is_key_chunk (encodes w) ≡ true
-    one [] g = g
-    one (c ∷ w) g =
-        let s = shape c in
-        ap (λ z. is_key_chunk (z ++ encodes w)) s.bytes ∙ sym (ap (λ z. list_all is_plain (z ++ encodes w)) s.bytes) ∙ plain (c ∷ w) g
-      where
-        plain : (w : List ℕ) → list_all is_plain w ≡ true → list_all is_plain (encodes w) ≡ true
-        plain [] g = refl
-        plain (c ∷ w) g =
-            let parts = and_parts (is_plain c) (list_all is_plain w) g in
-            list_all-append is_plain (encode c) (encodes w) ∙ and_from (list_all is_plain (encode c)) (list_all is_plain (encodes w)) (plain_bytes c parts.0) (plain w parts.1)
-
-    all : (k : List (List ℕ)) → list_all is_key_chunk k ≡ true → list_all is_key_chunk (map encodes k) ≡ true
-    all [] g = refl
-    all (w ∷ k) g =
-        let parts = and_parts (is_key_chunk w) (list_all is_key_chunk k) g in
-        and_from (is_key_chunk (encodes w)) (list_all is_key_chunk (map encodes k)) (one w parts.0) (all k parts.1)
 
 key_chars : (key : List (List ℕ)) → list_all is_utf8 key ≡ true → map encodes (map chars_of_text key) ≡ key
 key_chars [] h = refl

@@ -6,11 +6,11 @@ use Rattle.std.specs.List.{list_all, slice_split, onto_first}
 use Rattle.std.specs.Str.{is_utf8, chars as chars_of_text}
 use Rattle.std.proofs.lemmas.Bool.{and_parts, leb-true, ltb-true, ltb-false, ne_eqb}
 use Rattle.std.proofs.lemmas.Str.{encode_ascii, encodes-chars, IsUtf8-from_is_utf8}
-use Rattle.zr_key.specs.Expression.{Piece, Char, AnyChars, Any, AnyChunks, Pieces}
+use Rattle.zr_key.specs.Expression.{Piece, Any, AnyChunks, Pieces}
 use Rattle.zr_key.specs.Key.{pieces_of, chunk_of, chunks, expression_of}
-use Rattle.zr_match.proofs.PieceTable.{chars}
 use Rattle.zr_match.proofs.Characters.{shape, high_encode, bytes_of}
-use Rattle.zr_law_keys.proofs.Encoding.{chunk_bytes}
+use Rattle.zr_match.proofs.TextInclusion.{chunk_bytes}
+use Rattle.zr_match.proofs.TextKeys.{pieces_encoded}
 
 -- ---- a text is cut at `/` as its characters are
 
@@ -67,39 +67,6 @@ cut_more c cs ih = by (nat_lt c 128) refl (some_part cs)
 cut_encoded : (cs : List ℕ) → slice_split (λ b. b == 47) (encodes cs) ≡ map encodes (slice_split (λ b. b == 47) cs)
 cut_encoded [] = refl
 cut_encoded (c ∷ cs) = cut_more c cs (cut_encoded cs)
-
--- ---- the pieces of a text are the bytes of those of its characters
-
-high_pieces : (u r : List ℕ) → list_all (λ b. nat_le 128 b) u ≡ true → pieces_of (u ++ r) ≡ chars u ++ pieces_of r
-high_pieces [] r h = refl
-high_pieces (b ∷ u) r h =
-    let parts = and_parts (nat_le 128 b) (list_all (λ c. nat_le 128 c) u) h in
-    let high : 128 ≤ b = leb-true 128 b parts.0 in
-    let dollar : (b == 36) ≡ false = ne_eqb b 36 (λ e. omega arith) in
-    let star : (b == 42) ≡ false = ne_eqb b 42 (λ e. omega arith) in
-    rw (dollar, star) (ap (λ z. Char b ∷ z) (high_pieces u r parts.1))
-
-pieces_encoded : (cs : List ℕ) → pieces_of (encodes cs) ≡ bytes_of (pieces_of cs)
-pieces_encoded [] = refl
-pieces_encoded (c ∷ cs) = by (nat_lt c 128) refl (pieces_encoded cs)
-  where
-    low : (t u : Bool) → encode c ≡ c ∷ [] → pieces_of (encodes cs) ≡ bytes_of (pieces_of cs)
-        → cond t (AnyChars ∷ pieces_of (encodes cs)) (cond u (pieces_of (encodes cs)) (Char c ∷ pieces_of (encodes cs))) ≡ bytes_of (cond t (AnyChars ∷ pieces_of cs) (cond u (pieces_of cs) (Char c ∷ pieces_of cs)))
-    low true u e ih = ap (λ z. AnyChars ∷ z) ih
-    low false true e ih = ih
-    low false false e ih = ap (λ z. Char c ∷ z) ih ∙ ap (λ z. chars z ++ bytes_of (pieces_of cs)) (sym e)
-
-    by : (t : Bool) → nat_lt c 128 ≡ t → pieces_of (encodes cs) ≡ bytes_of (pieces_of cs) → pieces_of (encode c ++ encodes cs) ≡ bytes_of (pieces_of (c ∷ cs))
-    by true e ih =
-        let ascii : encode c ≡ c ∷ [] = encode_ascii c (ltb-true c 128 e) in
-        ap (λ z. pieces_of (z ++ encodes cs)) ascii ∙ low (c == 36) (c == 42) ascii ih
-    by false e ih =
-        let high : 128 ≤ c = ltb-false c 128 e in
-        let dollar : (c == 36) ≡ false = ne_eqb c 36 (λ q. omega arith) in
-        let star : (c == 42) ≡ false = ne_eqb c 42 (λ q. omega arith) in
-        high_pieces (encode c) (encodes cs) (high_encode c high) ∙ ap (λ z. chars (encode c) ++ z) ih
-        ∙ sym (ap (λ t. bytes_of (cond t (AnyChars ∷ pieces_of cs) (cond (c == 42) (pieces_of cs) (Char c ∷ pieces_of cs)))) dollar
-        ∙ ap (λ t. bytes_of (cond t (pieces_of cs) (Char c ∷ pieces_of cs))) star)
 
 -- ---- a text spells the chunk that its characters spell
 

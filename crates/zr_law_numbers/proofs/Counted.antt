@@ -23,13 +23,9 @@ use Rattle.zr_world_spec.specs.Moments.{is_step}
 use Rattle.zr_world_spec.proofs.Lines.{all_steps}
 use Rattle.zr_world_spec.specs.Run.{Run, start, stepped, commanded, on_line, run_lines}
 use Rattle.zr_world_spec.proofs.Counting.{recounted, outcome_recounted}
-use Rattle.zr_world_spec.proofs.Sound.{next_goes}
+use Rattle.zr_world_spec.proofs.Sound.{next_goes, said_first}
 use Rattle.zr_law_numbers.specs.Calls.{most_commands}
 use Rattle.zr_law_numbers.specs.Taken.{StepsArePossible}
-
--- what was said first, and then the rest
-abbrev said_first : List ReportLine → List ReportLine × WorldState → Done
-said_first said y = Ok (said ++ y.0, y.1)
 
 -- ---- how many steps runs asked for
 

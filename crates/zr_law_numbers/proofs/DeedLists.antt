@@ -12,10 +12,11 @@ use Rattle.zr_pend_spec.specs.declared.branch.Branch.{Branch}
 use Rattle.zr_pend_spec.specs.Row.{RowState, is_last}
 use Rattle.zr_pend_spec.specs.Pending.{IsSound, asked, finished, final_to, all_finished, finals}
 use Rattle.zr_pend_spec.proofs.Sound.{finished_sound}
+use Rattle.zr_pend_spec.proofs.ReadingsOfDrop.{is_who}
 use Rattle.zr_law_queries.specs.Link.{reply}
 use Rattle.zr_law_numbers.specs.Waiting.{Place, Said}
 use Rattle.zr_law_numbers.specs.Deeds.{Half, Deed, Replies, Ends, IsHalf, with_deed, with_deeds, MayDoAll, is_own, asked_by_deed, answered_by_deed}
-use Rattle.zr_law_numbers.proofs.RowsKept.{is_who, found_asked, kept_finished}
+use Rattle.zr_law_numbers.proofs.RowsKept.{found_asked, kept_finished}
 
 -- ---- one list behind another
 

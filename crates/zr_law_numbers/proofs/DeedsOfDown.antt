@@ -16,7 +16,7 @@ use Rattle.zr_pend_spec.specs.Pending.{IsSound, asked, is_pending, numbers_on, b
 use Rattle.zr_pend_spec.specs.Readings.{back, but_link}
 use Rattle.zr_pend_spec.proofs.Free.{is_in, pending_is_in}
 use Rattle.zr_pend_spec.proofs.Sound.{all_orphaned_sound}
-use Rattle.zr_pend_spec.proofs.ReadingsOfDrop.{dropped_back}
+use Rattle.zr_pend_spec.proofs.ReadingsOfDrop.{dropped_back, is_who}
 use Rattle.zr_node_spec.specs.Tables.{link_at}
 use Rattle.zr_node_spec.specs.Queries.{ending_for}
 use Rattle.zr_lists.proofs.Each.{All-append}
@@ -25,7 +25,6 @@ use Rattle.zr_node_spec.specs.Table.{after, without_link}
 use Rattle.zr_law_queries.specs.Link.{put}
 use Rattle.zr_law_numbers.specs.Waiting.{Place, asks_in, answers_in}
 use Rattle.zr_law_numbers.specs.Deeds.{Half, Deed, Leaves, with_deed, asked_by_deed, answered_by_deed, place_in, half_of, IsMeant, IsDone}
-use Rattle.zr_law_numbers.proofs.RowsKept.{is_who}
 use Rattle.zr_law_numbers.proofs.RowsBegun.{not_back}
 use Rattle.zr_law_numbers.proofs.LinksAfter.{at_without_link}
 use Rattle.zr_law_numbers.proofs.DeedLists.{Leads, leads-append, ends_for, all_ends_lead, half_by, asks_on, same_half}

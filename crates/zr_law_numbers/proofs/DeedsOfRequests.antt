@@ -25,9 +25,9 @@ use Rattle.zr_node_spec.specs.Queries.{asker, is_asked, links_along, asked_links
 use Rattle.zr_node_spec.specs.State.{NodeState, tables}
 use Rattle.zr_node_spec.specs.Table.{with_pending, refuses_request}
 use Rattle.zr_node_spec.proofs.Links.{none_behind, ascending_behind}
+use Rattle.zr_node_spec.proofs.Apart.{none_kept}
 use Rattle.zr_law_numbers.specs.Waiting.{asks_in, answers_in}
 use Rattle.zr_law_numbers.specs.Deeds.{Deed, Asks, Takes, Ends, with_deeds, MayDoAll, is_own, asked_by_deed, answered_by_deed, place_in, half_of, IsMeant, IsDone}
-use Rattle.zr_law_numbers.proofs.Apart.{none_kept}
 use Rattle.zr_law_numbers.proofs.RowsBegun.{free_back, is_over, begun_back_on}
 use Rattle.zr_law_numbers.proofs.DeedLists.{Leads, asks_on, swapped}
 use Rattle.zr_law_numbers.proofs.DeedsDone.{back_in, done_from}

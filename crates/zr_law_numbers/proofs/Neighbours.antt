@@ -16,9 +16,9 @@ use Rattle.zr_node_spec.specs.Tables.{link_at, link_to}
 use Rattle.zr_node_spec.specs.State.{NodeState, new_link}
 use Rattle.zr_lists.proofs.Each.{All-each}
 use Rattle.zr_node_spec.specs.Table.{with_link, without_link, sends, after}
+use Rattle.zr_node_spec.proofs.LinksStay.{links_from}
 use Rattle.zr_world_spec.specs.Sound.{AreUnique}
 use Rattle.zr_world_spec.proofs.Links.{numbered_link, named_link, link_to_with, link_to_apart}
-use Rattle.zr_law_settled.proofs.Heard.{links_from}
 use Rattle.zr_law_numbers.specs.Waiting.{asks_in, answers_in}
 use Rattle.zr_law_numbers.specs.Deeds.{Half, Deed, with_deeds, MayDoAll, asked_by_deed, answered_by_deed, half_of, IsHalf, handles_msg, handles, is_own, IsMeant, IsDone, IsNew, EventIsDone}
 use Rattle.zr_law_numbers.proofs.Leading.{handling_is_silent}

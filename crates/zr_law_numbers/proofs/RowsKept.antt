@@ -13,13 +13,9 @@ use Rattle.zr_pend_spec.proofs.Branches.{distinct_behind, distinct_apart}
 use Rattle.zr_pend_spec.proofs.Sound.{any_branch}
 use Rattle.zr_pend_spec.proofs.OneRow.{none_found}
 use Rattle.zr_pend_spec.proofs.Readings.{in_row, finished_is}
-use Rattle.zr_pend_spec.proofs.ReadingsOfDrop.{kept_is}
+use Rattle.zr_pend_spec.proofs.ReadingsOfDrop.{kept_is, is_who}
 
 -- ---- askers
-
--- an asker is this one
-abbrev pub is_who : Asker → Option Asker → Bool
-is_who a o = option_map_or (λ z. z.link.0 == a.link.0 && z.number == a.number) o false
 
 pub who_is : (a z : Asker) → (z.link.0 == a.link.0 && z.number == a.number) ≡ true → z ≡ a
 who_is a z e =

@@ -1,5 +1,5 @@
 -- What of all that an event sends is of queries: nothing but what a request, what answers it, and the end of a link send.
-use Rattle.std.proofs.Common.{◌≡◌, ℕ, ◌+◌, ◌==◌, ◌&&◌, not, Bool, true, false, cond, List, [], ◌∷◌, ◌++◌, append-nil, map, Option, Some, None, refl, ap, ◌∙◌}
+use Rattle.std.proofs.Common.{◌≡◌, ℕ, ◌+◌, ◌==◌, ◌&&◌, Bool, true, false, cond, List, [], ◌∷◌, ◌++◌, append-nil, map, Option, Some, None, refl, ap, ◌∙◌}
 use Rattle.std.specs.List.{flat_map}
 use Rattle.std.specs.Option.{option_map_or}
 use Rattle.std.proofs.lemmas.Grind.{flat_map-append}
@@ -23,12 +23,13 @@ use Rattle.zr_log.specs.Log.{Change}
 use Rattle.zr_log.specs.Known.{position, is_next, is_newer}
 use Rattle.zr_node_spec.specs.Tables.{TableState, link_at, is_router, is_to_child, leads_to_router}
 use Rattle.zr_node_spec.specs.Changes.{steps, changes}
-use Rattle.zr_node_spec.specs.Samples.{subscribes, leads_to_subscriber, tree_of, push_to, push_on, push_along}
+use Rattle.zr_node_spec.specs.Samples.{tree_of}
 use Rattle.zr_node_spec.specs.Snapshots.{is_new_child, snapshot, snapshots_on, sends_snapshots}
 use Rattle.zr_node_spec.specs.Queries.{sends_ends}
 use Rattle.zr_node_spec.specs.State.{NodeState, tables}
 use Rattle.zr_node_spec.specs.Table.{own_link, is_other_router, own_record, joined, parted, all_records, rows_left, sends_rows, sends_own, sends_up, sends_parted, sends_down, sends_from, sends_first, sends, after}
 use Rattle.zr_law_numbers.specs.Deeds.{handles_msg}
+use Rattle.zr_law_settled.proofs.Silent.{silent_if, push_silent}
 
 -- a reading of messages that finds nothing in records, samples, changes and snapshots
 pub record IsOfQueries {X : Type 0} (tells : Msg → List X) : Type 0 where
@@ -40,23 +41,6 @@ pub record IsOfQueries {X : Type 0} (tells : Msg → List X) : Type 0 where
 module _ {X : Type 0} (tells : Msg → List X) (none : IsOfQueries tells) where
   one : (m : Msg) → tells m ≡ [] → flat_map tells (m ∷ []) ≡ []
   one m e = ap (λ z. z ++ []) e
-
-  silent_if : (t : Bool) (xs : List Msg) → flat_map tells xs ≡ [] → flat_map tells (cond t xs []) ≡ []
-  silent_if true xs e = e
-  silent_if false xs e = refl
-
-  -- a sample sends nothing but samples
-  push_silent_to : (t : TableState) (from : ℕ) (content : Parts) (tree : List ℕ) (l : LinkPeer) (role : Role) → flat_map tells (push_to t from tree content l role) ≡ []
-  push_silent_to t from content tree l Client = silent_if (not (l.link.0 == from) && subscribes t.rows l.link.0 content.key) (Push None content ∷ []) (one (Push None content) (none.push None content))
-  push_silent_to t from content tree l Router = silent_if (leads_to_subscriber t tree content.key l.peer.id) (Push (Some tree) content ∷ []) (one (Push (Some tree) content) (none.push (Some tree) content))
-
-  push_silent : (t : TableState) (from : ℕ) (content : Parts) (tree : Option (List ℕ)) (to : ℕ) → flat_map tells (push_along t from tree content to) ≡ []
-  push_silent t from content None to = refl
-  push_silent t from content (Some tree) to = on (link_at t.links to)
-    where
-      on : (o : Option LinkPeer) → flat_map tells (push_on t from tree content o) ≡ []
-      on None = refl
-      on (Some l) = push_silent_to t from content tree l l.peer.role
 
   -- ---- changes and snapshots
 
@@ -80,16 +64,16 @@ module _ {X : Type 0} (tells : Msg → List X) (none : IsOfQueries tells) where
 
       by : (o : Option LinkPeer) → flat_map tells (option_map_or (λ l. snapshots_on t before l) o []) ≡ []
       by None = refl
-      by (Some l) = silent_if (is_router l.peer.role) _ (each l.peer.id t.known.logs)
+      by (Some l) = silent_if tells (is_router l.peer.role) _ (each l.peer.id t.known.logs)
 
   module _ (n : NodeState) where
     rows_silent : (rows : List Row) (to : ℕ) → flat_map tells (sends_rows n rows to) ≡ []
-    rows_silent rows to = silent_if (is_to_child (tables n) n.base.me to) _ (steps_silent n.base.me (position n.known n.base.me) (changes n.rows rows))
+    rows_silent rows to = silent_if tells (is_to_child (tables n) n.base.me to) _ (steps_silent n.base.me (position n.known n.base.me) (changes n.rows rows))
 
     -- ---- records
 
     own_silent : (link : ℕ) (b : BaseState) (to : ℕ) → flat_map tells (sends_own n link b to) ≡ []
-    own_silent link b to = silent_if (is_other_router n link to) (own_record b) (by (record_of b.records b.me))
+    own_silent link b to = silent_if tells (is_other_router n link to) (own_record b) (by (record_of b.records b.me))
       where
         by : (o : Option RecordState) → flat_map tells (option_map_or (λ r. State r ∷ []) o []) ≡ []
         by None = refl
@@ -134,15 +118,15 @@ module _ {X : Type 0} (tells : Msg → List X) (none : IsOfQueries tells) where
     from_silent from (ToldUntoken id) to e = refl
     from_silent from (ToldUnable id) to e = refl
     from_silent from (ToldEnd interest) to e = refl
-    from_silent from (Push tree content) to e = push_silent (tables n) from content (tree_of (tables n) (link_at n.links from) tree) to
+    from_silent from (Push tree content) to e = push_silent tells (tables n) from content (λ z. none.push z content) (tree_of (tables n) (link_at n.links from) tree) to
     from_silent from (Request tree id target content) to e = absurd (cc)
     from_silent from (Response id content) to e = absurd (cc)
     from_silent from (Final id extras) to e = absurd (cc)
-    from_silent from (State links) to e = silent_if _ (State links ∷ []) (one (State links) (none.state links))
+    from_silent from (State links) to e = silent_if tells _ (State links ∷ []) (one (State links) (none.state links))
     from_silent from (Step source number added decl) to e =
-        silent_if (leads_to_router n.links from && (is_next n.known source number && is_to_child (tables n) source to)) (Step source number added decl ∷ []) (one (Step source number added decl) (none.step source number added decl))
+        silent_if tells (leads_to_router n.links from && (is_next n.known source number && is_to_child (tables n) source to)) (Step source number added decl ∷ []) (one (Step source number added decl) (none.step source number added decl))
     from_silent from (Snap source number decls) to e =
-        silent_if (leads_to_router n.links from && (is_newer n.known source number && is_to_child (tables n) source to)) (Snap source number decls ∷ []) (one (Snap source number decls) (none.snap source number decls))
+        silent_if tells (leads_to_router n.links from && (is_newer n.known source number && is_to_child (tables n) source to)) (Snap source number decls ∷ []) (one (Snap source number decls) (none.snap source number decls))
 
     -- the snapshots of new children are nothing of queries
     pub first_tells : (event : Event) (to : LinkNo) → flat_map tells (sends n event to) ≡ flat_map tells (sends_first n event to)

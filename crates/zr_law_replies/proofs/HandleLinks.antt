@@ -14,13 +14,13 @@ use Rattle.zr_id.specs.declared.link.LinkNo.{LinkNo}
 use Rattle.zr_node_spec.specs.Tables.{link_to}
 use Rattle.zr_node_spec.specs.State.{NodeState}
 use Rattle.zr_node_spec.specs.Table.{sends, after}
+use Rattle.zr_node_spec.proofs.LinksStay.{links_from}
 use Rattle.zr_world_spec.specs.World.{Tagged, RouterState, EndState, End, Ends, WorldState, with_ends, router_of, client_of, end_of, with_end, with_wire}
 use Rattle.zr_world_spec.specs.Acts.{sends_to, having_told, sending}
 use Rattle.zr_world_spec.specs.Sound.{IsSound}
 use Rattle.zr_world_spec.proofs.Ends.{read_with_end, keep_with_end}
 use Rattle.zr_world_spec.proofs.Fits.{own_end, other_end}
 use Rattle.zr_world_spec.proofs.Cases.{w_handle}
-use Rattle.zr_law_settled.proofs.Heard.{links_from}
 use Rattle.zr_law_settled.proofs.Told.{IsTold, telling_told}
 use Rattle.zr_law_settled.proofs.Quiet.{passes_there}
 use Rattle.zr_law_settled.proofs.Orderly.{Orderly}

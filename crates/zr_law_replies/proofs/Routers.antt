@@ -27,12 +27,12 @@ use Rattle.zr_node_spec.specs.Tables.{link_at, link_to, leads_to_client}
 use Rattle.zr_node_spec.specs.Tables.{is_router as is_node}
 use Rattle.zr_node_spec.specs.State.{NodeState}
 use Rattle.zr_node_spec.specs.Table.{after}
+use Rattle.zr_node_spec.proofs.LinksStay.{links_from}
 use Rattle.zr_world_spec.specs.World.{Tagged, RouterState, WorldState, router_of}
 use Rattle.zr_world_spec.specs.Moments.{Numbered}
 use Rattle.zr_world_spec.specs.Sound.{AreUnique, IsSound}
 use Rattle.zr_world_spec.proofs.Links.{numbered_link, named_link}
 use Rattle.zr_law_settled.proofs.Orderly.{Orderly}
-use Rattle.zr_law_settled.proofs.Heard.{links_from}
 use Rattle.zr_law_queries.specs.Link.{Ask, Answer, ask, reply, has_number, answers_number, asked_by}
 use Rattle.zr_law_queries.proofs.Hops.{front_ask}
 use Rattle.zr_law_numbers.specs.Waiting.{Asked, Said, Place, waits, back_at, link_of, is_whole}

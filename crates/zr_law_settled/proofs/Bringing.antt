@@ -34,11 +34,12 @@ use Rattle.zr_node_spec.specs.Samples.{tree_of}
 use Rattle.zr_node_spec.specs.Snapshots.{snapshots_for, snapshots_on, sends_snapshots}
 use Rattle.zr_node_spec.specs.State.{NodeState, tables}
 use Rattle.zr_node_spec.specs.Table.{own_link, joined, parted, own_record, all_records, is_other_router, sends_own, sends_up, sends_parted, sends_down, sends_rows, sends_first, sends, rows_declared, rows_undeclared, rows_left, with_rows, row, key_of, able_kind, known_step, known_snap, after}
+use Rattle.zr_node_spec.proofs.Changes.{rows_lead, decls_fold, decls_with, me_changes}
 use Rattle.zr_law_settled.proofs.Answering.{request_silent, reply_silent, final_silent, behind_ends}
 use Rattle.zr_law_settled.proofs.Spreading.{Name}
 use Rattle.zr_law_settled.proofs.Silent.{silent_if, push_silent}
-use Rattle.zr_law_settled.proofs.Positions.{position_with, decls_with, me_changes, position_changes, position_others, logs_found}
-use Rattle.zr_law_settled.proofs.Values.{brings_none, brings, Sets, AllMade, made_later, made_of_append, made_if, made_on, made_old, steps_made, sets_on, decls_changes, decls_others, rows_lead, decls_fold, set_again, snaps_made}
+use Rattle.zr_law_settled.proofs.Positions.{position_with, position_changes, position_others, logs_found}
+use Rattle.zr_law_settled.proofs.Values.{brings_none, brings, Sets, AllMade, made_later, made_of_append, made_if, made_on, made_old, steps_made, sets_on, decls_changes, decls_others, set_again, snaps_made}
 
 -- What a router knows is what was made, and its own set is what its clients have declared.
 pub record KnowsMade (made : Sets) (n : NodeState) : Type 0 where

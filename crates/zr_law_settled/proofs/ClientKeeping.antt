@@ -1,5 +1,5 @@
 -- Each act that is not refused keeps what holds of clients and rows (`clients_keep`); and where a world is settled, rows are those of its clients.
-use Rattle.std.proofs.Common.{◌≡◌, ℕ, Bool, true, false, cond, not, List, [], ◌∷◌, Option, Some, None, is_some, refl, sym, ap, ◌∙◌, subst}
+use Rattle.std.proofs.Common.{◌≡◌, ℕ, Bool, true, false, cond, not, List, [], ◌∷◌, ◌++◌, Option, Some, None, is_some, refl, sym, ap, ◌∙◌, subst}
 use Rattle.std.specs.Prelude.{◌&&◌, IfSome, unwrap_or}
 use Rattle.std.specs.List.{list_all, AllByRecursion}
 use Rattle.std.specs.Option.{option_map, option_map_or}
@@ -25,19 +25,20 @@ use Rattle.zr_local.specs.Rows.{row_at}
 use Rattle.zr_node_spec.specs.Tables.{is_router, link_to, leads_to_client, free_link}
 use Rattle.zr_node_spec.specs.State.{new_link, NodeState}
 use Rattle.zr_node_spec.specs.Table.{key_of, able_kind, with_link}
+use Rattle.zr_node_spec.proofs.FreeLink.{free_is_free}
 use Rattle.zr_told_spec.specs.Place.{class_of}
 use Rattle.zr_told_spec.specs.declared.place.Class.{Class}
 use Rattle.zr_told_spec.specs.declared.place.Class.TheVariants.{Subscriber, Queryable, Living}
 use Rattle.zr_world_spec.specs.World.{Tagged, RouterState, EndState, ClientState, End, Ends, WorldState, with_clients, with_ends, new_client, with_client, router_of, client_of, end_of, is_end, put_end, with_end, with_queue, new_end, is_up, is_unbroken, is_taken, empty_world, lifted, lowered, sent, changed, unsettles, is_calm, is_calm_end, is_met, with_routers, with_router}
-use Rattle.zr_world_spec.specs.Acts.{outcome, peer_of, hearing, sending, has_id, declaring, undeclaring, received, weighing}
-use Rattle.zr_world_spec.specs.Moments.{Numbered, Moment, beginning, went, onward, reached}
+use Rattle.zr_world_spec.specs.Acts.{outcome, peer_of, hearing, sending, has_id, declaring, undeclaring, received, weighing, ids_of}
+use Rattle.zr_world_spec.specs.Moments.{Numbered, Moment, went, reached}
 use Rattle.zr_world_spec.specs.Moments as moments
 use Rattle.zr_world_spec.specs.Sound.{IsSound}
 use Rattle.zr_world_spec.proofs.Names.{names}
 use Rattle.zr_world_spec.proofs.Ends.{end_parts, same_end, read_with_end, keep_with_end, read_put_end, keep_changed, keep_all_queued}
-use Rattle.zr_world_spec.proofs.Links.{free_is_free, link_to_with}
+use Rattle.zr_world_spec.proofs.Links.{link_to_with}
 use Rattle.zr_world_spec.proofs.Lines.{at_some}
-use Rattle.zr_world_spec.proofs.Clients.{same_received}
+use Rattle.zr_world_spec.proofs.Clients.{same_received, same_home}
 use Rattle.zr_world_spec.proofs.Cases.{w_sent, w_declare, w_undeclare, free_name, number_found, for_router, for_link, for_break, for_declare, for_undeclare, Says, publish_says, get_says, reply_says, end_says, for_take, for_mark, for_show, Weighs, interest_says, uninterest_says}
 use Rattle.zr_world_spec.proofs.Sound.{empty_sound}
 use Rattle.zr_law_settled.specs.Rows.{SettledRowsAreOfClients}
@@ -301,12 +302,6 @@ module _ (now : Moment) (sound : IsSound now.world) (h : ClientsHold now.world) 
           keep_changed v.ends (router, name) lowered unbroken_at (x, c) (λ q. refl) ∙ unbroken_heard w router r found (Down j.link) n (x, c)
           ∙ ap (λ (q : End). is_unbroken w.ends q) (sym (same_end (router, name) (x, c) e)) ∙ ap unbroken_at at_end ∙ cut
 
-  home_of : (s : ClientState) (kind : Kind) (id : ℕ) → (declaring s kind id).router ≡ s.router
-  home_of s k.Sub id = refl
-  home_of s k.Able id = refl
-  home_of s k.Full id = refl
-  home_of s k.Token id = refl
-
   able_said : (s : ClientState) (id : ℕ) (key : List ℕ) (complete : Bool) → said (has_ids s) (m.Able id key complete) ≡ has_ids (declaring s (able_kind complete) id)
   able_said s id key true = sym (has_declaring s k.Full id)
   able_said s id key false = sym (has_declaring s k.Able id)
@@ -330,7 +325,7 @@ module _ (now : Moment) (sound : IsSound now.world) (h : ClientsHold now.world) 
   clients_keep n (a.Untoken client id) = for_undeclare now KeptClients n client k.Token id (m.Untoken id) (λ s found known e at_end unbroken.
       undeclares n client k.Token id (m.Untoken id) s found e at_end unbroken refl (sym (has_is s k.Token id) ∙ known) (sym (has_undeclaring s k.Token id)))
   clients_keep n (a.Able client id key complete) = for_declare now KeptClients n client (able_kind complete) id key (m.Able id key complete) (λ s found fresh e at_end unbroken r there room.
-      declares n client (able_kind complete) id key (m.Able id key complete) s found e at_end unbroken r there (home_of s (able_kind complete) id) tt (able_said s id key complete))
+      declares n client (able_kind complete) id key (m.Able id key complete) s found e at_end unbroken r there (same_home s (able_kind complete) (ids_of s (able_kind complete) ++ id ∷ [])) tt (able_said s id key complete))
   clients_keep n (a.Unable client id) = for_undeclare now KeptClients n client k.Able id (m.Unable id) (λ s found known e at_end unbroken.
       undeclares n client k.Able id (m.Unable id) s found e at_end unbroken refl (sym (has_is s k.Able id) ∙ known) (sym (has_undeclaring s k.Able id)))
   clients_keep n (a.Interest client id mode kinds key aggregate) = interest_says now KeptClients n client id mode kinds key aggregate

@@ -23,6 +23,7 @@ use Rattle.zr_local.specs.declared.row.Row.{Row}
 use Rattle.zr_node_spec.specs.Tables.{is_link, link_at, link_to, is_router, leads_to_client}
 use Rattle.zr_node_spec.specs.State.{NodeState, new_link}
 use Rattle.zr_node_spec.specs.Table.{with_link, without_link, after}
+use Rattle.zr_node_spec.proofs.LinksStay.{links_from}
 use Rattle.zr_told_spec.specs.declared.place.Class.{Class}
 use Rattle.zr_told_spec.specs.declared.place.Class.TheVariants.{Subscriber, Queryable, Living}
 use Rattle.zr_world_spec.specs.World.{Tagged, RouterState, EndState, ClientState, End, Ends, Clients, WorldState, with_routers, with_clients, with_ends, new_router, new_client, with_router, with_client, router_of, client_of, end_of, is_end, put_end, with_end, with_wire, with_queue, new_end, is_up, is_unbroken, is_taken, broken, sent, queued, changed}
@@ -30,7 +31,7 @@ use Rattle.zr_world_spec.specs.Acts.{weighing, hearing, sending, sends_to}
 use Rattle.zr_world_spec.specs.Sound.{IsSound}
 use Rattle.zr_world_spec.proofs.Names.{value_new, read_kept, read_after}
 use Rattle.zr_world_spec.proofs.Ends.{end_parts, same_end, ends, read_with_end, keep_with_end, read_put_end, read_changed, keep_changed, keep_all_queued}
-use Rattle.zr_world_spec.proofs.Links.{named_link, numbered_link, free_is_free, link_to_with, link_at_with, link_at_without, link_to_without}
+use Rattle.zr_world_spec.proofs.Links.{link_to_with, link_at_with, link_at_without, link_to_without}
 use Rattle.zr_world_spec.proofs.Links as links
 use Rattle.zr_world_spec.proofs.Cases.{free_name}
 use Rattle.zr_world_spec.proofs.Clients.{SameClients, idle_client, client_was}
@@ -40,7 +41,6 @@ use Rattle.zr_law_settled.proofs.Quiet.{passes_there}
 use Rattle.zr_law_settled.proofs.Moving.{up_at, unbroken_at}
 use Rattle.zr_law_settled.proofs.Links.{AreKnown, linked_to, is_at}
 use Rattle.zr_law_settled.proofs.Changes.{links_known}
-use Rattle.zr_law_settled.proofs.Heard.{links_from}
 use Rattle.zr_law_settled.proofs.Declaring.{said, IsAsked, all_said, AreAsked, asked_more, said_more, has_ids, has_rows, heard_here, heard_there, rows_pass, left_there}
 
 -- What waits on the wire from a client leads from the rows of its link to the ids that it has.

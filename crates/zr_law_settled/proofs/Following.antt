@@ -1,8 +1,7 @@
 -- What one event does to what a router knows of logs (`Follows`): positions grow, what is sent is known, and children are told what is new.
-use Rattle.std.proofs.Common.{◌≡◌, ◌≤◌, ℕ, max, Bool, true, false, cond, List, [], ◌∷◌, ◌++◌, map, Option, Some, None, ◌⊎◌, inl, inr, refl, sym, ap, ◌∙◌, subst, arith}
-use Rattle.std.specs.Prelude.{◌&&◌, ◌||◌, ◌==◌, not, nat_lt}
+use Rattle.std.proofs.Common.{◌≡◌, ◌≤◌, ℕ, max, Bool, true, false, cond, List, [], ◌∷◌, ◌++◌, map, Option, Some, None, ◌⊎◌, inl, inr, refl, ap, ◌∙◌, subst, arith}
+use Rattle.std.specs.Prelude.{◌&&◌, ◌==◌}
 use Rattle.std.specs.Option.{option_map_or}
-use Rattle.std.proofs.lemmas.Bool.{true≢false}
 use Rattle.zr_id.specs.Zid.{is_named}
 use Rattle.zr_id.specs.Record.{RecordState}
 use Rattle.zr_id.specs.declared.link.LinkNo.{LinkNo}
@@ -17,22 +16,16 @@ use Rattle.zr_msg.specs.Peer.{PeerState}
 use Rattle.zr_msg.specs.declared.peer.LinkPeer.{LinkPeer}
 use Rattle.zr_msg.specs.declared.peer.Role.{Role}
 use Rattle.zr_msg.specs.declared.peer.Role.TheVariants.{Client, Router}
-use Rattle.zr_msg.specs.Decl.{decl_cmp}
-use Rattle.zr_msg.specs.declared.decl.Decl.{Decl}
-use Rattle.zr_log_set.specs.Decls.{has}
-use Rattle.zr_lists.proofs.Order.{is_itself}
-use Rattle.zr_log_set.proofs.Decls.{decl_order}
-use Rattle.zr_local.specs.Rows.{left, gone}
-use Rattle.zr_local.specs.Owners.{rows_with}
+use Rattle.zr_local.specs.Rows.{left}
 use Rattle.zr_local.specs.declared.row.Row.{Row}
-use Rattle.zr_local.proofs.Changed.{has_gone}
-use Rattle.zr_log.specs.Known.{KnownState, AreInOrder, position}
+use Rattle.zr_log.specs.Known.{KnownState, position}
 use Rattle.zr_log.specs.Known as log
 use Rattle.zr_node_spec.specs.Tables.{link_at, is_router, leads_to_router, leads_to_client, is_to_child}
 use Rattle.zr_node_spec.specs.Changes.{changes, after_changes, steps, sends_changes}
 use Rattle.zr_node_spec.specs.Samples.{tree_of}
 use Rattle.zr_node_spec.specs.State.{NodeState, tables}
 use Rattle.zr_node_spec.specs.Table.{own_link, joined, parted, own_record, all_records, is_other_router, sends_own, sends_up, sends_parted, sends_down, sends_rows, sends_first, rows_declared, rows_undeclared, rows_left, with_rows, row, key_of, able_kind, known_step, known_snap, after}
+use Rattle.zr_node_spec.proofs.Changes.{no_changes}
 use Rattle.zr_law_settled.proofs.Answering.{request_silent, reply_silent, final_silent, behind_ends}
 use Rattle.zr_law_settled.proofs.Spreading.{Name, best}
 use Rattle.zr_law_settled.proofs.Silent.{silent_if, push_silent}
@@ -66,21 +59,6 @@ own_silent b = by (record_of b.records b.me)
     by : (o : Option RecordState) → places (option_map_or (λ r. State r ∷ []) o []) ≡ []
     by None = refl
     by (Some r) = refl
-
--- rows that stay change nothing
-none_has : (ds : List Decl) → ((d : Decl) → has ds d ≡ false) → ds ≡ []
-none_has [] h = refl
-none_has (d ∷ ds) h = absurd (true≢false (sym (ap (λ t. t || has ds d) (is_itself decl_cmp decl_order d)) ∙ h d))
-
-no_changes : (rows : List Row) → changes rows rows ≡ []
-no_changes rows = ap (λ ds. map (λ (d : Decl). record { added = false; decl = d }) ds ++ map (λ (d : Decl). record { added = true; decl = d }) ds) none
-  where
-    never : (t : Bool) → (not t && t) ≡ false
-    never true = refl
-    never false = refl
-
-    none : gone rows rows ≡ []
-    none = none_has (gone rows rows) (λ d. has_gone rows rows d ∙ never (nat_lt 0 (rows_with rows d)))
 
 module _ (n : NodeState) where
   others_silent : (from : ℕ) (b : BaseState) (to : ℕ) → places (sends_own n from b to) ≡ []

@@ -25,13 +25,14 @@ use Rattle.zr_log.specs.Known.{position}
 use Rattle.zr_node_spec.specs.Tables.{is_link, link_at, link_to, free_link}
 use Rattle.zr_node_spec.specs.State.{new_link}
 use Rattle.zr_node_spec.specs.Table.{able_kind, rows_left, with_link, without_link, after, refuses}
+use Rattle.zr_node_spec.proofs.FreeLink.{free_is_free}
 use Rattle.zr_world_spec.specs.World.{Tagged, RouterState, EndState, End, Ends, WorldState, with_routers, with_ends, new_router, with_router, router_of, end_of, is_end, put_end, with_end, with_queue, new_end, is_up, is_unbroken, is_taken, empty_world, lifted, lowered, broken, sent, changed}
 use Rattle.zr_world_spec.specs.Acts.{outcome, weighing, peer_of, sending}
 use Rattle.zr_world_spec.specs.Moments.{Moment, went}
 use Rattle.zr_world_spec.specs.Sound.{IsSound, AreUnique}
 use Rattle.zr_world_spec.proofs.Names.{value_new, read_kept}
 use Rattle.zr_world_spec.proofs.Ends.{same_end, keep_with_end, read_put_end, keep_put_end, read_changed}
-use Rattle.zr_world_spec.proofs.Links.{named_link, numbered_link, free_is_free, link_at_with, link_at_without, unique_with, unique_without}
+use Rattle.zr_world_spec.proofs.Links.{named_link, numbered_link, link_at_with, link_at_without, unique_with, unique_without}
 use Rattle.zr_world_spec.proofs.Links as links
 use Rattle.zr_world_spec.proofs.Telling.{is_told}
 use Rattle.zr_world_spec.proofs.Cases.{w_sent, free_name, number_found, for_router, for_link, for_break, for_declare, for_undeclare, Says, publish_says, get_says, reply_says, end_says, for_take, for_mark, for_show, Weighs, interest_says, uninterest_says}

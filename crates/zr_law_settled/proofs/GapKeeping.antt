@@ -15,6 +15,7 @@ use Rattle.zr_log.specs.Known.{position}
 use Rattle.zr_node_spec.specs.Tables.{link_at, link_to, is_router, is_to_child, leads_to_child, leads_to_router}
 use Rattle.zr_node_spec.specs.State.{tables}
 use Rattle.zr_node_spec.specs.Table.{sends, after, refuses}
+use Rattle.zr_node_spec.proofs.LinksStay.{links_from}
 use Rattle.zr_world_spec.specs.World.{Tagged, RouterState, EndState, End, Ends, WorldState, with_ends, router_of, end_of, is_end, is_up, is_unbroken, with_end, with_wire}
 use Rattle.zr_world_spec.specs.Acts.{hearing, sending}
 use Rattle.zr_world_spec.specs.Sound.{IsSound}
@@ -31,7 +32,7 @@ use Rattle.zr_law_settled.proofs.Positions.{Place, placed, places_in, places}
 use Rattle.zr_law_settled.proofs.Children.{child_by}
 use Rattle.zr_law_settled.proofs.Logs.{knows_logs, logs_of, log_lane, child_at, feeds_logs, LogsHold, child_up}
 use Rattle.zr_law_settled.proofs.Following.{from_follows}
-use Rattle.zr_law_settled.proofs.Heard.{heard_known, links_from}
+use Rattle.zr_law_settled.proofs.Heard.{heard_known}
 use Rattle.zr_law_settled.proofs.LogEvents.{first_le}
 use Rattle.zr_law_settled.proofs.Values.{Brought, brings}
 use Rattle.zr_law_settled.proofs.Gaps.{Gapless, gapless_later, gapless_more, sends_climb}

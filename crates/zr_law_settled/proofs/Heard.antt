@@ -22,9 +22,10 @@ use Rattle.zr_node_spec.specs.Tables.{leads_to_router}
 use Rattle.zr_node_spec.specs.Changes.{changes, after_changes}
 use Rattle.zr_node_spec.specs.State.{NodeState}
 use Rattle.zr_node_spec.specs.Table.{row, key_of, able_kind, rows_declared, rows_undeclared, rows_left, known_step, known_snap, known_error, after, refuses}
+use Rattle.zr_node_spec.proofs.Changes.{me_changes}
 use Rattle.zr_world_spec.proofs.Names.{names}
 use Rattle.zr_law_settled.proofs.Spreading.{Name, best}
-use Rattle.zr_law_settled.proofs.Positions.{places, me_changes}
+use Rattle.zr_law_settled.proofs.Positions.{places}
 use Rattle.zr_law_settled.proofs.Children.{step_now, snap_now}
 
 -- ---- order
@@ -190,30 +191,3 @@ module _ (n : NodeState) (link : LinkNo) (router : leads_to_router n.links link.
       (no_error (refuses_step n.known source number (record { added = added; decl = decl })) (sym (ap (λ t. cond t (option_map (λ x. known_error x) (refuses_step n.known source number (record { added = added; decl = decl }))) None) router) ∙ taken))
       z other (is_named source z) refl
   heard_known (Snap source number decls) taken z other = snap_heard source number decls z other (is_named source z) refl
-
--- ---- links
-
--- a message leaves the links as they are
-pub links_from : (n : NodeState) (link : LinkNo) (msg : Msg) → (after n (From link msg)).links ≡ n.links
-links_from n link (Sub id key) = refl
-links_from n link (Unsub id) = refl
-links_from n link (Token id key) = refl
-links_from n link (Untoken id) = refl
-links_from n link (Able id key complete) = refl
-links_from n link (Unable id) = refl
-links_from n link (Interest id current future kinds key aggregate) = refl
-links_from n link (EndInterest id) = refl
-links_from n link (ToldSub id key interest) = refl
-links_from n link (ToldToken id key interest) = refl
-links_from n link (ToldAble id key complete interest) = refl
-links_from n link (ToldUnsub id) = refl
-links_from n link (ToldUntoken id) = refl
-links_from n link (ToldUnable id) = refl
-links_from n link (ToldEnd interest) = refl
-links_from n link (Push tree content) = refl
-links_from n link (Request tree id target content) = refl
-links_from n link (Response id content) = refl
-links_from n link (Final id extras) = refl
-links_from n link (State links) = refl
-links_from n link (Step source number added decl) = refl
-links_from n link (Snap source number decls) = refl

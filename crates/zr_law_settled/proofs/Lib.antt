@@ -56,3 +56,4 @@ pub mod Wanting
 pub mod InTurn
 pub mod Goes
 pub mod Refused
+pub mod UpEnds

@@ -16,6 +16,7 @@ use Rattle.zr_msg.specs.declared.peer.LinkPeer.{LinkPeer}
 use Rattle.zr_log.specs.Known.{AreInOrder, position}
 use Rattle.zr_node_spec.specs.Tables.{is_link, link_at, link_to, is_router, leads_to_router, leads_to_client}
 use Rattle.zr_node_spec.specs.Table.{after, refuses}
+use Rattle.zr_node_spec.proofs.LinksStay.{links_from}
 use Rattle.zr_world_spec.specs.World.{Tagged, RouterState, EndState, End, Ends, WorldState, with_ends, router_of, end_of, is_end, is_up, is_unbroken, with_end, with_wire, changed, lifted, lowered}
 use Rattle.zr_world_spec.specs.Acts.{hearing, sending}
 use Rattle.zr_world_spec.specs.Sound.{IsSound}
@@ -36,7 +37,7 @@ use Rattle.zr_law_settled.proofs.Keeping.{client_is, client_down_base}
 use Rattle.zr_law_settled.proofs.Positions.{Place, places_in, places}
 use Rattle.zr_law_settled.proofs.Children.{child_by}
 use Rattle.zr_law_settled.proofs.Following.{heard_places, Follows, from_follows, client_leaves, router_leaves, up_follows}
-use Rattle.zr_law_settled.proofs.Heard.{event_stays, heard_known, links_from}
+use Rattle.zr_law_settled.proofs.Heard.{event_stays, heard_known}
 use Rattle.zr_law_settled.proofs.Logs.{knows_logs, logs_of, log_lane, child_at, feeds_logs, none_made, LogsHold, IsFed, heard_spreads, logs_here}
 
 -- A world that an act leaves once router a has heard of an event in a world, with other ends (`es`) but no other end of another router up.

@@ -92,20 +92,7 @@ position_with k source number set z =
     by true = refl
     by false = refl
 
-pub decls_with : (k : KnownState) (source : Name) (number : ℕ) (set : List Decl) (z : Name) → decls (with_log k source number set) z ≡ cond (is_named source z) set (decls k z)
-decls_with k source number set z =
-    ap (λ (o : Option Log). option_map_or (λ l. l.decls) o []) (at-put (slice_cmp nat_cmp) source_of name_order k.logs (record { source = source; position = number; decls = set }) z)
-    ∙ by (is_named source z)
-  where
-    by : (t : Bool) → option_map_or (λ (l : Log). l.decls) (cond t (Some (record { source = source; position = number; decls = set })) (log_of k z)) [] ≡ cond t set (decls k z)
-    by true = refl
-    by false = refl
-
 -- changes of the own log
-pub me_changes : (k : KnownState) (cs : List Change) → (after_changes k cs).me ≡ k.me
-me_changes k [] = refl
-me_changes k (c ∷ cs) = me_changes (after_own k c) cs
-
 pub position_changes : (k : KnownState) (cs : List Change) → position (after_changes k cs) k.me ≡ position k k.me + length cs
 position_changes k [] = omega arith
 position_changes k (c ∷ cs) =

@@ -2,7 +2,7 @@
 -- know the same (`linked_level`), and a router knows of each that it reaches what that one knows (`walk_level`). What a router's own record
 -- lists are its ends, so edges are links (`edges_are`), and weigh what those weigh (`weights_are`).
 use Rattle.std.proofs.Common.{◌≡◌, ◌+◌, max, cond, Bool, true, false, not, List, [], ◌∷◌, ◌++◌, Option, Some, None, refl, sym, ap, ◌∙◌, arith}
-use Rattle.std.specs.Prelude.{◌&&◌, ◌||◌}
+use Rattle.std.specs.Prelude.{◌&&◌}
 use Rattle.std.specs.List.{list_all}
 use Rattle.std.specs.Option.{option_map_or}
 use Rattle.std.proofs.lemmas.Bool.{true≢false, false≢true, and_parts, and_from}
@@ -23,6 +23,7 @@ use Rattle.zr_law_settled.proofs.Spreading.{Name, Known, Note, level}
 use Rattle.zr_law_settled.proofs.Records.{Links, known, known_of, notes_in}
 use Rattle.zr_law_settled.proofs.Worlds.{there_in, knows, table_of, queue_at, wire_at, notes, way_of, lane_of, feeds_of, up_weight_at, up_weight, Holds}
 use Rattle.zr_law_settled.proofs.Quiet.{passes_there}
+use Rattle.zr_law_settled.proofs.UpEnds.{met_settled}
 
 -- ---- nothing is told
 
@@ -129,23 +130,7 @@ module _ (w : WorldState) (sound : IsSound w) (h : Holds w) (settled : is_settle
 
   -- an end that is up is that of an unbroken link, and a router's end at its other side is up
   pub met : (x y : Name) → is_up w.ends (x, y) ≡ true → (is_unbroken w.ends (x, y) ≡ true) × (there_in w y ≡ true → is_up w.ends (y, x) ≡ true)
-  met x y up = by (end_of w.ends (x, y)) refl up
-    where
-      by : (o : Option EndState) → end_of w.ends (x, y) ≡ o → option_map_or (λ s. s.up) o false ≡ true →
-          (option_map_or (λ s. s.unbroken) o false ≡ true) × (there_in w y ≡ true → is_up w.ends (y, x) ≡ true)
-      by None e k = absurd (false≢true k)
-      by (Some s) e k = at s.up k (and_parts (is_met w (x, y) s) (is_calm_end s) (passes (x, y) s e)).0
-        where
-          other : (t : Bool) → there_in w y ≡ t → (not t || is_up w.ends (y, x)) ≡ true → there_in w y ≡ true → is_up w.ends (y, x) ≡ true
-          other true e h router = h
-          other false e h router = absurd (true≢false (sym router ∙ e))
-
-          at : (t : Bool) → t ≡ true → (not t || (s.unbroken && (not (there_in w y) || is_up w.ends (y, x)))) ≡ true →
-              (s.unbroken ≡ true) × (there_in w y ≡ true → is_up w.ends (y, x) ≡ true)
-          at false t h = absurd (false≢true t)
-          at true t h =
-              let parts = and_parts s.unbroken (not (there_in w y) || is_up w.ends (y, x)) h in
-              (parts.0, other (there_in w y) refl parts.1)
+  met x y up = met_settled w settled (x, y) up
 
   -- an end that is up is a router's
   pub router_of_end : (x y : Name) → is_up w.ends (x, y) ≡ true → there_in w x ≡ true

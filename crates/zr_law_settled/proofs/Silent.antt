@@ -24,7 +24,7 @@ use Rattle.zr_node_spec.specs.Samples.{subscribes, leads_to_subscriber, tree_of,
 use Rattle.zr_node_spec.specs.Snapshots.{is_new_child, snapshot, snapshots_on, sends_snapshots}
 use Rattle.zr_node_spec.specs.State.{NodeState, tables}
 use Rattle.zr_node_spec.specs.Table.{rows_left, sends_rows, sends_down, sends_from, sends_first, sends, after_from, after}
-use Rattle.zr_law_settled.proofs.Spreading.{Name, Note}
+use Rattle.zr_law_settled.proofs.Spreading.{Name}
 use Rattle.zr_law_settled.proofs.Records.{notes_in, told}
 use Rattle.zr_law_settled.proofs.Answering.{TellsNothing, request_silent, reply_silent, final_silent, behind_ends}
 
@@ -33,7 +33,7 @@ told-append xs ys = flat_map-append notes_in xs ys
 
 -- ---- any reading of messages
 
-module _ {V : Type 0} (tells : Msg → List (Note V)) where
+module _ {X : Type 0} (tells : Msg → List X) where
   pub silent_if : (t : Bool) (xs : List Msg) → flat_map tells xs ≡ [] → flat_map tells (cond t xs []) ≡ []
   silent_if true xs e = e
   silent_if false xs e = refl

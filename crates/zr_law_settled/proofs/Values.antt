@@ -1,33 +1,29 @@
 -- What routers know of logs is what was made: a history gives the set that each log led to after each number of changes, and stands in proofs
 -- alone. A change on the way leads from the set before it to the set under its number, and a snapshot is the set under its number.
-use Rattle.std.proofs.Common.{◌≡◌, ◌≤◌, ◌+◌, ℕ, Bool, true, false, cond, List, [], ◌∷◌, ◌++◌, length, map, Option, Some, ◌⊎◌, inl, inr, refl, sym, ap, ◌∙◌, subst, arith}
+use Rattle.std.proofs.Common.{◌≡◌, ◌≤◌, ◌+◌, ℕ, Bool, true, false, cond, List, [], ◌∷◌, ◌++◌, length, Option, Some, ◌⊎◌, inl, inr, refl, sym, ap, ◌∙◌, subst, arith}
 use Rattle.std.specs.Prelude.{◌&&◌, nat_lt, flat_map}
-use Rattle.std.specs.List.{AllByRecursion, fold}
+use Rattle.std.specs.List.{AllByRecursion}
 use Rattle.std.specs.Option.{option_map_or}
 use Rattle.std.proofs.lemmas.Bool.{le-ltb, lt-ltb}
 use Rattle.std.proofs.lemmas.Grind.{flat_map-append}
-use Rattle.std.proofs.lemmas.List.Sums.{fold-append}
 use Rattle.zr_id.specs.Zid.{is_named}
 use Rattle.zr_id.specs.Record.{RecordState}
 use Rattle.zr_graph.proofs.Names.{same_refl}
 use Rattle.zr_msg.specs.declared.decl.Decl.{Decl}
 use Rattle.zr_msg.specs.declared.msg.Msg.{Msg}
 use Rattle.zr_msg.specs.declared.msg.Msg.TheVariants.{Sub, Unsub, Token, Untoken, Able, Unable, Interest, EndInterest, ToldSub, ToldAble, ToldUnsub, ToldToken, ToldUntoken, ToldUnable, ToldEnd, Push, Request, Response, Final, State, Step, Snap}
-use Rattle.zr_log_set.specs.Decls.{IsSet, with_decl, without_decl, set_of}
+use Rattle.zr_log_set.specs.Decls.{IsSet, set_of}
 use Rattle.zr_log_set.proofs.Decls.{sets_same, set_all, has_all}
-use Rattle.zr_local.specs.Rows.{declared_set, gone, came}
-use Rattle.zr_local.specs.declared.row.Row.{Row}
-use Rattle.zr_local.proofs.Leads.{lead_on}
 use Rattle.zr_log.specs.declared.log.Log.{Log}
 use Rattle.zr_log.specs.Log.{Change, changed}
 use Rattle.zr_log.specs.Known.{KnownState, log_of, position, decls, after_own}
 use Rattle.zr_log.proofs.Changes.{set_changed}
-use Rattle.zr_node_spec.specs.Changes.{changes, after_changes, steps}
+use Rattle.zr_node_spec.specs.Changes.{after_changes, steps}
 use Rattle.zr_node_spec.specs.Snapshots.{is_new_child, snapshot}
+use Rattle.zr_node_spec.proofs.Changes.{decls_with}
 use Rattle.zr_law_settled.proofs.Answering.{TellsNothing}
 use Rattle.zr_law_settled.proofs.Spreading.{Name, Note, Made}
 use Rattle.zr_law_settled.proofs.Telling.{more}
-use Rattle.zr_law_settled.proofs.Positions.{decls_with}
 use Rattle.zr_lists.proofs.Each.{All-append}
 
 -- ---- readings
@@ -164,31 +160,6 @@ decls_others k [] z other = refl
 decls_others k (c ∷ cs) z other =
     decls_others (after_own k c) cs z other ∙ decls_with k k.me (position k k.me + 1) (changed (decls k k.me) c) z
     ∙ ap (λ t. cond t (changed (decls k k.me) c) (decls k z)) other
-
--- ---- rows
-
-outs : (ds : List Decl) (s : List Decl) → fold changed s (map (λ d. record { added = false; decl = d }) ds) ≡ fold without_decl s ds
-outs [] s = refl
-outs (d ∷ ds) s = outs ds (without_decl s d)
-
-ins : (ds : List Decl) (s : List Decl) → fold changed s (map (λ d. record { added = true; decl = d }) ds) ≡ fold with_decl s ds
-ins [] s = refl
-ins (d ∷ ds) s = ins ds (with_decl s d)
-
--- the changes of rows lead from their set to the next one
-pub rows_lead : (before after : List Row) → fold changed (declared_set before) (changes before after) ≡ declared_set after
-rows_lead before after =
-    fold-append changed (declared_set before) (map (λ d. record { added = false; decl = d }) (gone before after)) (map (λ d. record { added = true; decl = d }) (came before after))
-    ∙ ap (λ s. fold changed s (map (λ d. record { added = true; decl = d }) (came before after))) (outs (gone before after) (declared_set before))
-    ∙ ins (came before after) (fold without_decl (declared_set before) (gone before after))
-    ∙ lead_on before after
-
--- what the own log leads to is the fold of its changes
-pub decls_fold : (k : KnownState) (cs : List Change) → decls (after_changes k cs) k.me ≡ fold changed (decls k k.me) cs
-decls_fold k [] = refl
-decls_fold k (c ∷ cs) =
-    decls_fold (after_own k c) cs
-    ∙ ap (λ s. fold changed s cs) (decls_with k k.me (position k k.me + 1) (changed (decls k k.me) c) k.me ∙ ap (λ t. cond t (changed (decls k k.me) c) (decls k k.me)) (same_refl k.me))
 
 -- ---- sets
 

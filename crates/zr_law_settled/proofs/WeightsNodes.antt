@@ -41,12 +41,13 @@ use Rattle.zr_node_spec.specs.Samples.{tree_of}
 use Rattle.zr_node_spec.specs.Queries.{link_no, sends_ends}
 use Rattle.zr_node_spec.specs.State.{NodeState, tables, local_state}
 use Rattle.zr_node_spec.specs.Table.{able_kind, row, key_of, rows_declared, rows_undeclared, rows_left, live, clients_noted, with_rows, sends_down, sends_rows, is_other_router, sends_first, sends, after, local_error, known_error, refuses_rows, refuses_declared, refuses_undeclared, refuses_noted, refuses}
+use Rattle.zr_node_spec.proofs.Changes.{me_changes}
 use Rattle.zr_lists.proofs.Each.{All-append, All-each, All-filter}
 use Rattle.zr_world_spec.specs.World.{most_weight}
 use Rattle.zr_world_spec.proofs.Nodes.{me_after}
 use Rattle.zr_law_settled.proofs.Answering.{request_all, reply_all, final_all, ends_all}
 use Rattle.zr_law_settled.proofs.Spreading.{Name}
-use Rattle.zr_law_settled.proofs.Positions.{me_changes, position_changes}
+use Rattle.zr_law_settled.proofs.Positions.{position_changes}
 use Rattle.zr_law_settled.proofs.WeightsRows.{IsAdded, less_costs, less_weigh, more_costs, more_weigh, added_of}
 use Rattle.zr_law_settled.proofs.WeightsClients.{leave_weighs, but_weighs, note_weighs}
 use Rattle.zr_law_settled.proofs.Weights.{Ever, ever_more, live_weight, weighs, gained, IsTold, IsSent, IsKnown, IsWithin, IsInTurn}

@@ -15,16 +15,17 @@ use Rattle.zr_msg.specs.Peer.{PeerState}
 use Rattle.zr_node_spec.specs.Tables.{is_router, link_at, link_to, free_link, leads_to_client}
 use Rattle.zr_node_spec.specs.State.{new_link}
 use Rattle.zr_node_spec.specs.Table.{after}
+use Rattle.zr_node_spec.proofs.FreeLink.{free_is_free}
+use Rattle.zr_node_spec.proofs.LinksStay.{links_from}
 use Rattle.zr_world_spec.specs.World.{RouterState, EndState, ClientState, End, WorldState, router_of, client_of, end_of, is_end, is_unbroken, is_up, is_taken}
 use Rattle.zr_world_spec.specs.Acts.{up_event}
 use Rattle.zr_world_spec.specs.Sound.{AreUnique, IsSound}
 use Rattle.zr_world_spec.proofs.Ends.{same_end}
-use Rattle.zr_world_spec.proofs.Links.{free_is_free, link_to_with, link_to_apart, unique_with, unique_without, named_link, numbered_link}
+use Rattle.zr_world_spec.proofs.Links.{link_to_with, link_to_apart, unique_with, unique_without, named_link, numbered_link}
 use Rattle.zr_law_settled.proofs.Spreading.{Name}
 use Rattle.zr_law_settled.proofs.Worlds.{there_in}
 use Rattle.zr_law_settled.proofs.Quiet.{no_end, passes_there}
 use Rattle.zr_law_settled.proofs.Moving.{up_at, unbroken_at}
-use Rattle.zr_law_settled.proofs.Heard.{links_from}
 use Rattle.zr_law_settled.proofs.ClientRows.{ClientsHold}
 
 -- an end that leads to a router is none that leads to a client

@@ -2,9 +2,10 @@
 use Rattle.std.proofs.Common.{◌≡◌, ℕ, Bool, true, false, cond, not, List, [], Option, Some, None, refl, sym, ap, ◌∙◌}
 use Rattle.std.specs.Prelude.{◌==◌, ◌&&◌}
 use Rattle.std.specs.Option.{option_map_or}
-use Rattle.std.proofs.lemmas.Bool.{true≢false, false_from_ne_true, eqb-true, eq-eqb}
+use Rattle.std.proofs.lemmas.Bool.{true≢false, false_from_ne_true, eqb-true}
 use Rattle.zr_id.specs.declared.link.LinkNo.{LinkNo}
 use Rattle.zr_lists.proofs.Finds.{find_in}
+use Rattle.zr_lists.proofs.Numbers.{turned}
 use Rattle.zr_msg.specs.declared.event.Event.TheVariants.{Down, From}
 use Rattle.zr_msg.specs.declared.msg.Msg.{Msg}
 use Rattle.zr_msg.specs.declared.peer.LinkPeer.{LinkPeer}
@@ -13,11 +14,12 @@ use Rattle.zr_local.specs.Clients.{interests_on}
 use Rattle.zr_node_spec.specs.Tables.{is_link, is_router, link_at, link_to, free_link, leads_to_client}
 use Rattle.zr_node_spec.specs.State.{NodeState, new_link}
 use Rattle.zr_node_spec.specs.Table.{without_link, after}
+use Rattle.zr_node_spec.proofs.FreeLink.{free_is_free}
+use Rattle.zr_node_spec.proofs.LinksStay.{links_from}
 use Rattle.zr_world_spec.specs.World.{RouterState}
 use Rattle.zr_world_spec.specs.Acts.{up_event}
 use Rattle.zr_world_spec.specs.Sound.{AreUnique}
-use Rattle.zr_world_spec.proofs.Links.{kept, free_is_free, link_at_with, link_at_without}
-use Rattle.zr_law_settled.proofs.Heard.{links_from}
+use Rattle.zr_world_spec.proofs.Links.{kept, link_at_with, link_at_without}
 use Rattle.zr_law_told.proofs.Interests.{heard_there, down_is}
 
 abbrev is_client : Option LinkPeer → Bool
@@ -44,9 +46,6 @@ module _ (r : RouterState) (unique : AreUnique r.node.links) (h : AreKept r.node
       other : (link.0 == k) ≡ false → leads_to_client (without_link r.node.links link.0) k ≡ leads_to_client r.node.links k
       other e = ap is_client (link_at_without r.node.links unique link.0 k) ∙ at (link_at r.node.links k) refl
         where
-          turned : (a b : ℕ) → (a == b) ≡ false → (b == a) ≡ false
-          turned a b n = false_from_ne_true (b == a) (λ m. true≢false (sym (eq-eqb a b (sym (eqb-true b a m))) ∙ n))
-
           at : (o : Option LinkPeer) → link_at r.node.links k ≡ o → is_client (kept (λ l. not (is_link link.0 l)) o) ≡ is_client o
           at None f = refl
           at (Some l) f =

@@ -32,6 +32,8 @@ use Rattle.zr_script_spec.specs.Mode.{is_current, is_future}
 use Rattle.zr_node_spec.specs.Tables.{is_router, link_to, free_link, leads_to_client}
 use Rattle.zr_node_spec.specs.State.{NodeState, new_link}
 use Rattle.zr_node_spec.specs.Table.{able_kind, after}
+use Rattle.zr_node_spec.proofs.FreeLink.{free_is_free}
+use Rattle.zr_node_spec.proofs.LinksStay.{links_from}
 use Rattle.zr_told_spec.specs.Laws.{Agrees}
 use Rattle.zr_told_spec.specs.Rows.{map_on}
 use Rattle.zr_told_spec.specs.Told.{ToldMap, heard as leave}
@@ -43,13 +45,12 @@ use Rattle.zr_world_spec.specs.Sound.{AreUnique, IsSound}
 use Rattle.zr_guarantee.specs.Sent.{Told, told_in, told_to}
 use Rattle.zr_world_spec.proofs.Names.{names, value_new, read_after, read_kept}
 use Rattle.zr_world_spec.proofs.Ends.{ends, read_with_end, keep_with_end, read_put_end, read_changed, keep_changed}
-use Rattle.zr_world_spec.proofs.Links.{free_is_free, numbered_link}
+use Rattle.zr_world_spec.proofs.Links.{numbered_link}
 use Rattle.zr_world_spec.proofs.Clients.{same_received}
 use Rattle.zr_world_spec.proofs.Cases.{w_client, w_up, w_down, w_handle, w_sent, w_take, free_name, number_found, for_router, for_client, for_link, for_up, for_break, for_down, for_declare, for_undeclare, Says, Weighs, interest_says, uninterest_says, publish_says, get_says, reply_says, end_says, for_handle, for_take, for_mark, for_show}
 use Rattle.zr_law_settled.proofs.Spreading.{Name}
 use Rattle.zr_law_settled.proofs.Worlds.{there_in, queue_at}
 use Rattle.zr_law_settled.proofs.Moving.{unbroken_at}
-use Rattle.zr_law_settled.proofs.Heard.{links_from}
 use Rattle.zr_law_settled.proofs.Ends.{other_end}
 use Rattle.zr_law_settled.proofs.ClientRows.{ClientsHold}
 use Rattle.zr_law_told.proofs.Readings.{told_of, msgs_in, waits, told_by, SameHomes, same_homes, home_was, same_taken, either_router, router_new, none_before}

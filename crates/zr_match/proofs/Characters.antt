@@ -6,6 +6,7 @@ use Rattle.std.specs.List.{list_all, flat_map}
 use Rattle.std.proofs.lemmas.Bool.{and_parts, and_from, lt-ltb, le-ltb, le-leb, lt-leb, ltb-true, false≢true}
 use Rattle.std.proofs.lemmas.List.Folds.{list_all-append}
 use Rattle.std.proofs.lemmas.Str.{encode_same, encodes-append}
+use Rattle.std.proofs.Math.Bool.{and-false}
 use Rattle.zr_key.specs.Expression.{Piece, Char, AnyChars, Fits}
 use Rattle.zr_match.specs.Laws.{piece_passes}
 use Rattle.zr_match.proofs.Globs.{Common}
@@ -27,11 +28,7 @@ next_goes_on : (n : ℕ) → goes_on (128 + n % 64) ≡ true
 next_goes_on n = and_from (nat_le 128 (128 + n % 64)) (nat_lt (128 + n % 64) 192) (le-leb 128 (128 + n % 64) (omega arith)) (lt-ltb (128 + n % 64) 192 (omega arith))
 
 lead_begins : (k n : ℕ) → 192 ≤ k → goes_on (k + n) ≡ false
-lead_begins k n h = rw (le-ltb (k + n) 192 (omega arith)) (and_false (nat_le 128 (k + n)))
-  where
-    and_false : (b : Bool) → (b && false) ≡ false
-    and_false true = refl
-    and_false false = refl
+lead_begins k n h = rw (le-ltb (k + n) 192 (omega arith)) (and-false (nat_le 128 (k + n)))
 
 pub shape : (c : ℕ) → Shape c
 unfolding encode

@@ -24,7 +24,7 @@ use Rattle.zr_match.proofs.Characters.{shape, high_encode, piece_bytes, bytes_of
 use Rattle.zr_match.proofs.TextKeys.{good, of_chars, word_scalars, is_text, text_chunks}
 
 -- a chunk of characters as one of bytes
-abbrev chunk_bytes : Chunk → Chunk
+abbrev pub chunk_bytes : Chunk → Chunk
 chunk_bytes Any = Any
 chunk_bytes AnyChunks = AnyChunks
 chunk_bytes (Pieces p) = Pieces (bytes_of p)
@@ -50,7 +50,7 @@ no_gaps : (u : List ℕ) → list_any is_any_chars (chars u) ≡ false
 no_gaps [] = refl
 no_gaps (b ∷ u) = no_gaps u
 
-wild_bytes : (p : List Piece) → is_wild (bytes_of p) ≡ is_wild p
+pub wild_bytes : (p : List Piece) → is_wild (bytes_of p) ≡ is_wild p
 wild_bytes [] = refl
 wild_bytes (Char c ∷ p) =
     list_any-append is_any_chars (chars (encode c)) (bytes_of p) ∙ ap (λ z. z || is_wild (bytes_of p)) (no_gaps (encode c)) ∙ wild_bytes p
@@ -61,11 +61,11 @@ begins_bytes [] = refl
 begins_bytes (Char c ∷ p) = ap (λ z. begins_verbatim (chars z ++ bytes_of p)) (shape c).bytes ∙ lead_at c
 begins_bytes (AnyChars ∷ p) = refl
 
-verbatim_bytes : (w : List ℕ) → is_verbatim (encodes w) ≡ is_verbatim w
+pub verbatim_bytes : (w : List ℕ) → is_verbatim (encodes w) ≡ is_verbatim w
 verbatim_bytes [] = refl
 verbatim_bytes (c ∷ w) = ap (λ z. is_verbatim (z ++ encodes w)) (shape c).bytes ∙ lead_at c
 
-run_verbatim : (k : List (List ℕ)) → list_any is_verbatim (map encodes k) ≡ list_any is_verbatim k
+pub run_verbatim : (k : List (List ℕ)) → list_any is_verbatim (map encodes k) ≡ list_any is_verbatim k
 run_verbatim [] = refl
 run_verbatim (w ∷ k) = rw (verbatim_bytes w) (ap (λ t. is_verbatim w || t) (run_verbatim k))
 
@@ -133,7 +133,7 @@ high_plain b le =
     let mark : (b == 63) ≡ false = ne_eqb b 63 (λ q. omega arith) in
     rw (slash, star, dollar, hash, mark) refl
 
-plain_char : (c : ℕ) → list_all is_plain (encode c) ≡ true → is_plain c ≡ true
+pub plain_char : (c : ℕ) → list_all is_plain (encode c) ≡ true → is_plain c ≡ true
 plain_char c h = by (nat_lt c 128) refl
   where
     by : (t : Bool) → nat_lt c 128 ≡ t → is_plain c ≡ true
@@ -195,7 +195,7 @@ fits_back p v okp okv m =
     let c = common_chars good p (chars v) (encodes v) okp (passes_chars v okv) m (fits_bytes (chars v) v (chars_fit v)) in
     subst (λ z. Fits p z) (sym (fit_chars v c.word c.second_matches)) c.first_matches
 
-chunk_there : (x : Chunk) (w : List ℕ) → MatchesChunk x w → MatchesChunk (chunk_bytes x) (encodes w)
+pub chunk_there : (x : Chunk) (w : List ℕ) → MatchesChunk x w → MatchesChunk (chunk_bytes x) (encodes w)
 chunk_there Any w m = verbatim_bytes w ∙ m
 chunk_there AnyChunks w m = m
 chunk_there (Pieces p) w m = (fits_bytes p w m.0, λ wild. verbatim_bytes w ∙ m.1 (sym (wild_bytes p) ∙ wild))
@@ -205,7 +205,7 @@ chunk_back Any w okx okw m = sym (verbatim_bytes w) ∙ m
 chunk_back AnyChunks w okx okw m = m
 chunk_back (Pieces p) w okx okw m = (fits_back p w okx okw m.0, λ wild. sym (verbatim_bytes w) ∙ m.1 (wild_bytes p ∙ wild))
 
-matches_there : (e : List Chunk) (k : List (List ℕ)) → Matches e k → Matches (map chunk_bytes e) (map encodes k)
+pub matches_there : (e : List Chunk) (k : List (List ℕ)) → Matches e k → Matches (map chunk_bytes e) (map encodes k)
 matches_there [] k m = ap (λ z. map encodes z) m
 matches_there (AnyChunks ∷ e) k m =
     (map encodes m.0, map encodes m.1, ap (λ z. map encodes z) m.2 ∙ map-append encodes m.0 m.1, run_verbatim m.0 ∙ m.3, matches_there e m.1 m.4)
@@ -354,7 +354,7 @@ same_scalar z h = by (nat_lt z 55296) h
     by false k = k
 
 -- the key of characters as one of bytes
-key_bytes : (k : List (List ℕ)) → is_key k ≡ true → is_key (map encodes k) ≡ true
+pub key_bytes : (k : List (List ℕ)) → is_key k ≡ true → is_key (map encodes k) ≡ true
 key_bytes [] h = h
 key_bytes (w ∷ k) h = all (w ∷ k) h
   where

@@ -29,7 +29,7 @@ high_pieces (b ∷ u) r h =
     let star : (b == 42) ≡ false = ne_eqb b 42 (λ e. omega arith) in
     rw (dollar, star) (ap (λ z. Char b ∷ z) (high_pieces u r parts.1))
 
-pieces_encoded : (cs : List ℕ) → pieces_of (encodes cs) ≡ bytes_of (pieces_of cs)
+pub pieces_encoded : (cs : List ℕ) → pieces_of (encodes cs) ≡ bytes_of (pieces_of cs)
 pieces_encoded [] = refl
 pieces_encoded (c ∷ cs) = by (nat_lt c 128) refl (pieces_encoded cs)
   where

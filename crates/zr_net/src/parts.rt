@@ -2,15 +2,13 @@
 
 pub(crate) const PUSH: u8 = 0x1D;
 
-pub(crate) const REQUEST: u8 = 0x1C;
+/// The id of a REQUEST, in its header (Zenoh protocol 1.0, "REQUEST").
+pub const REQUEST: u8 = 0x1C;
 
-pub(crate) const RESPONSE: u8 = 0x1B;
+/// The id of a RESPONSE, in its header (Zenoh protocol 1.0, "RESPONSE").
+pub const RESPONSE: u8 = 0x1B;
 
 pub(crate) const RESPONSE_FINAL: u8 = 0x1A;
-
-pub(crate) const DECLARE: u8 = 0x1E;
-
-pub(crate) const INTEREST: u8 = 0x19;
 
 /// Extensions that are passed on, with the bit of each among the marks.
 pub(crate) const QOS: u8 = 1;

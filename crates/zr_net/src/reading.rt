@@ -9,13 +9,13 @@ ghost use Rattle.zr_net.specs.Writing.{ToldFits};
 
 use crate::exts;
 use crate::parts::{
-    BUDGET, DECLARE, INTEREST, NODE_ID, PUSH, QOS, REQUEST, RESPONDER, RESPONSE, RESPONSE_FINAL,
-    TARGET, TIMEOUT, TIMESTAMP, TREE,
+    BUDGET, NODE_ID, PUSH, QOS, REQUEST, RESPONDER, RESPONSE, RESPONSE_FINAL, TARGET, TIMEOUT,
+    TIMESTAMP, TREE,
 };
 use std::alloc::{AllocError, Global};
 use zr_body::{Body, Place, read_body};
 use zr_bytes::{Cursor, ReadError};
-use zr_decl::{Declared, read_asked, read_declare, read_wire_key};
+use zr_decl::{Declared, INTEREST, read_asked, read_declare, read_wire_key};
 use zr_ext::{Ext, Form};
 use zr_format_spec::header::ID;
 use zr_format_spec::read_extensions;
@@ -24,7 +24,7 @@ use zr_msg::content::Content;
 use zr_msg::msg::Msg;
 use zr_msg::peer::Role;
 use zr_msg::shared::Shared;
-use zr_wirekey::Scopes;
+use zr_wirekey::{DECLARE, Scopes};
 
 /// The network message at the front (Zenoh protocol 1.0, "Network messages"), of a sender of this role that declared `theirs` to a receiver that
 /// declared `ours`. The tree of a message is known from routers alone. `UnknownId` is for any other message, those between routers

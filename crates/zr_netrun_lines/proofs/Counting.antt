@@ -27,6 +27,7 @@ use Rattle.zr_world_spec.proofs.Counting.{recounted, outcome_recounted, steps_re
 use Rattle.zr_world_spec.proofs.Next.{none_left}
 use Rattle.zr_world_spec.proofs.Cases.{for_handle, for_take}
 use Rattle.zr_world_spec.proofs.Lines.{all_steps, made, acts_lead, fan_led}
+use Rattle.zr_world_spec.proofs.Sound.{said_first}
 use Rattle.zr_world.specs.Living.{Living, Applies, Books}
 use Rattle.zr_netrun_report.specs.declared.counts.Counts.{Counts}
 use Rattle.zr_netrun_report.specs.Summary.{tells_handled, tells_taken, tells_sent, tells_mark, counts_in, counts_of}
@@ -234,10 +235,6 @@ keeps_twice w v u a b = record {
 
 abbrev moved_to : Moment → List ReportLine × WorldState → Moment
 moved_to m x = record { world = x.1; report = m.report ++ x.0 }
-
--- what was said first, and then the rest
-abbrev said_first : List ReportLine → List ReportLine × WorldState → Done
-said_first said y = Ok (said ++ y.0, y.1)
 
 one_step : (line : ℕ) (act : Act) (m : Moment) → is_step act ≡ true → IfSome (went m (outcome m.world line act)) (Steps m)
 one_step line act m ok = by (outcome m.world line act) (act_keeps m line act) (λ h. step_marks_none m h line act ok)

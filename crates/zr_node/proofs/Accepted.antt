@@ -13,11 +13,11 @@ use Rattle.zr_node_spec.specs.Tables.{leads_to_router}
 use Rattle.zr_node_spec.specs.Event.{AreLinks}
 use Rattle.zr_node_spec.specs.State.{NodeState, tables}
 use Rattle.zr_node_spec.specs.Table.{with_base, is_other_router, base_told, sends_state}
+use Rattle.zr_node_spec.proofs.OwnName.{me_record}
+use Rattle.zr_node_spec.proofs.NoNewChildren.{no_new_children}
 use Rattle.zr_node.specs.Done.{Part, IsLeft}
 use Rattle.zr_node.specs.Steps.{told_part, news_to}
 use Rattle.zr_node.proofs.Done.{IsFirst}
-use Rattle.zr_node.proofs.Quiet.{no_new_children}
-use Rattle.zr_node.proofs.Remembering.{me_record}
 use Rattle.zr_node.proofs.Retold.{silent}
 
 pub older_is : (b : Bool) → Old ≡ cond b Newer Old → b ≡ false

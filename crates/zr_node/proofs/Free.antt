@@ -1,24 +1,21 @@
 -- The least number that no link has is found by counting along the links, as long as each has the number that is counted.
-use Rattle.std.proofs.Common.{◌≡◌, ℕ, ◌+◌, ◌<◌, ◌≤◌, ◌==◌, not, nat_lt, suc, zero, Bool, true, false, cond, List, [], ◌∷◌, Some, Less, length, map, unwrap_or, refl, drop, get_or, add-one, sym, ap, subst, ◌∙◌, arith}
+use Rattle.std.proofs.Common.{◌≡◌, ℕ, ◌+◌, ◌<◌, ◌≤◌, ◌==◌, nat_lt, suc, zero, Bool, true, false, cond, List, [], ◌∷◌, Some, Less, length, map, unwrap_or, refl, drop, get_or, add-one, sym, ap, subst, ◌∙◌, arith}
 use Rattle.std.specs.Cmp.{ranked}
-use Rattle.std.specs.List.{AllByRecursion, find, list_any, range_with_len}
+use Rattle.std.specs.List.{AllByRecursion, find, range_with_len}
 use Rattle.std.specs.Ordering.{nat_cmp}
 use Rattle.std.proofs.lemmas.Bool.{eqb-true, eq-eqb, ltb-true, ltb-false, false_from_ne_true, true≢false}
 use Rattle.std.proofs.lemmas.List.{at_drop_more}
 use Rattle.std.proofs.lemmas.Map.Keys.{sorted_head}
 use Rattle.zr_msg.specs.declared.peer.LinkPeer.{LinkPeer}
-use Rattle.zr_node_spec.specs.Tables.{is_link, free_link}
+use Rattle.zr_node_spec.specs.Tables.{free_link}
 use Rattle.zr_lists.proofs.Each.{All-each}
 use Rattle.zr_node_spec.proofs.Links.{AreAscending, ascending_behind}
+use Rattle.zr_node_spec.proofs.FreeLink.{is_free}
 
 -- the first number from one on that the links do not have in a row
 abbrev pub counted : ℕ → List LinkPeer → ℕ
 counted n [] = n
 counted n (p ∷ peers) = cond (p.link.0 == n) (counted (n + 1) peers) n
-
--- no link has the number
-abbrev is_free : List LinkPeer → ℕ → Bool
-is_free links n = not (list_any (λ l. is_link n l) links)
 
 -- where two tests agree from a number on, they find the same from there
 find_alike : (p q : ℕ → Bool) (a n : ℕ) → ((k : ℕ) → a ≤ k → p k ≡ q k) → find p (range_with_len a n) ≡ find q (range_with_len a n)

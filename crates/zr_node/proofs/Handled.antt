@@ -16,10 +16,10 @@ use Rattle.zr_node.specs.declared.failure.NodeFailure.TheVariants as failure
 use Rattle.zr_node.proofs.Refusals.{not_memory, not_spent}
 
 -- an answer that is an error
-abbrev error : NodeError → Result (Unit {0}) NodeError
+abbrev pub error : NodeError → Result (Unit {0}) NodeError
 error why = Err why
 
-same_error : (x y : NodeError) → error x ≡ error y → x ≡ y
+pub same_error : (x y : NodeError) → error x ≡ error y → x ≡ y
 same_error x y h = cc
 
 module _ (n : NodeState) (event : Event) where

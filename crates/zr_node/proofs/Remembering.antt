@@ -1,8 +1,8 @@
 -- What a router remembers stays right where nothing changes that it is of, or where it is forgotten.
-use Rattle.std.proofs.Common.{◌≡◌, ℕ, Bool, true, false, List, Option, None, IfSome, cond, refl, sym, subst, ◌∙◌}
+use Rattle.std.proofs.Common.{◌≡◌, ℕ, List, Option, None, IfSome, sym, subst, ◌∙◌}
 use Rattle.std.proofs.lemmas.Option.{IfSome_then}
 use Rattle.zr_id.specs.Record.{RecordState}
-use Rattle.zr_graph.specs.Base.{BaseState, is_newer, kept, after_record}
+use Rattle.zr_graph.specs.Base.{BaseState}
 use Rattle.zr_local.specs.State.{LocalState}
 use Rattle.zr_local.specs.declared.row.Row.{Row}
 use Rattle.zr_node_spec.specs.Event.{AreLinks}
@@ -20,14 +20,6 @@ routes_stay routes t local e h =
       IfSome_then routes.subscribers.holders h.1 (λ holders all. record { in_order = all.in_order; clients = all.clients; sources = all.sources }),
       IfSome_then routes.queryables.holders h.2 (λ holders all. record { in_order = all.in_order; clients = all.clients; sources = all.sources }),
     )
-
--- a record that is kept leaves the base that of its router
-pub me_record : (b : BaseState) (r : RecordState) → (after_record b r).me ≡ b.me
-me_record b r = by (is_newer b r)
-  where
-    by : (newer : Bool) → (cond newer (kept b r) b).me ≡ b.me
-    by true = refl
-    by false = refl
 
 -- once the records have changed, and nothing is kept or remembered that was worked out of the old ones, a router's parts hold together
 pub whole_anew : (t : TableState) (base : BaseState) (children : Option BaseState) (trees : Option (List RecordState)) (routes : Routes)

@@ -11,10 +11,10 @@ use Rattle.zr_msg.specs.declared.peer.Role.{Role}
 use Rattle.zr_msg.specs.declared.peer.Role.TheVariants.{Client, Router}
 use Rattle.zr_node_spec.specs.State.{NodeState, new_link, tables}
 use Rattle.zr_node_spec.specs.Table.{with_base, with_link, without_link, joined, own_link, parted}
+use Rattle.zr_node_spec.proofs.NoNewChildren.{no_new_children}
 use Rattle.zr_node.specs.Done.{IsLeft}
 use Rattle.zr_node.specs.Steps.{with_links, with_table, ended_on, up_as, up_part, join_part, parted_from, parting_part, down_part, news_to}
 use Rattle.zr_node.proofs.Done.{IsFirst}
-use Rattle.zr_node.proofs.Quiet.{no_new_children}
 use Rattle.zr_node.proofs.Retold.{silent}
 
 -- a client has come: nothing is sent

@@ -3,3 +3,9 @@ pub mod Links
 pub mod OwnLinks
 pub mod Told
 pub mod Kept
+pub mod OwnName
+pub mod FreeLink
+pub mod NoNewChildren
+pub mod Changes
+pub mod LinksStay
+pub mod Apart

@@ -11,5 +11,6 @@ mod record;
 mod writing;
 
 pub use laws::{oam_has_one_reading, oam_is_read, spelled_oam_is_written, written_oam_is_read};
+pub use parts::OAM;
 pub use reading::read_oam;
 pub use writing::write_oam;

@@ -1,7 +1,7 @@
 //! What the bytes of OAM messages are made of.
 
-/// An OAM message.
-pub(crate) const OAM: u8 = 0x1F;
+/// The id of an OAM message, in its header (Zenoh protocol 1.0, "OAM").
+pub const OAM: u8 = 0x1F;
 /// The form of the content, in a header.
 pub(crate) const ENCODING: u8 = 0x60;
 /// The header of the project's own messages: a content of bytes, and no extension.

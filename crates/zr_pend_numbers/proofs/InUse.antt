@@ -113,7 +113,7 @@ take_more bs i d c all was new lt e h =
     swap false false = refl
 
 -- where numbers that weren't in use are taken away again, all is as it was
-same_used : (uses : Uses) (b c : Branch) → is_branch c b ≡ true → is_used uses b ≡ is_used uses c
+pub same_used : (uses : Uses) (b c : Branch) → is_branch c b ≡ true → is_used uses b ≡ is_used uses c
 same_used uses b c h = ap (λ k. is_in b.number (used_on uses k)) (eqb-true b.link.0 c.link.0 (and_left _ _ h)) ∙ ap (λ n. is_in n (used_on uses c.link.0)) (eqb-true b.number c.number (and_right _ _ h))
 
 unused : (uses : Uses) (c : Branch) (bs : List Branch) → list_all (λ b. not (is_used uses b)) bs ≡ true → is_among c bs ≡ true → is_used uses c ≡ false

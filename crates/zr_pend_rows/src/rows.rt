@@ -7,7 +7,7 @@ ghost use Rattle.std.specs.Vec.{vec_len, vec_capacity};
 ghost use Rattle.zr_pend_rows.specs.Ending.{all_ended, ended, finals_among, left};
 ghost use Rattle.zr_pend_rows.specs.Tied.{ArePending};
 ghost use Rattle.zr_pend_spec.specs.Row.{has, is_last};
-ghost use Rattle.zr_pend_spec.specs.Pending.{IsSound, asker_of, is_pending, numbers_on, is_full, branch, free_number, marked, first_unset, branches, are_distinct, opened, finished, final_to, placed, ascending, all_finished, finals, all_orphaned};
+ghost use Rattle.zr_pend_spec.specs.Pending.{IsSound, asker_of, is_pending, numbers_on, is_full, branch, free_number, branches, are_distinct, opened, finished, final_to, placed, ascending, all_finished, finals, all_orphaned};
 
 use crate::places::Places;
 use crate::row::Row;

@@ -12,6 +12,7 @@ use Rattle.zr_pend_spec.specs.Pending.{is_pending, branch, branches, branches_on
 use Rattle.zr_pend_spec.proofs.Parts.{and_left, and_right, left_false, right_false}
 use Rattle.zr_pend_spec.proofs.Free.{is_in, pending_is_in}
 use Rattle.zr_pend_spec.proofs.Sound.{any_branch, finished_branches, all_orphaned_branches}
+use Rattle.zr_lists.proofs.Truths.{or_swap}
 
 -- ---- numbers in order
 
@@ -19,14 +20,9 @@ placed_any : (p : ℕ → Bool) (ms : List ℕ) (n : ℕ) → list_any p (placed
 placed_any p [] n = refl
 placed_any p (m ∷ ms) n = by (nat_le n m) (placed_any p ms n)
   where
-    swap : (a b c : Bool) → (a || (b || c)) ≡ (b || (a || c))
-    swap true true c = refl
-    swap true false c = refl
-    swap false b c = refl
-
     by : (t : Bool) → list_any p (placed ms n) ≡ (p n || list_any p ms) → list_any p (cond t (n ∷ m ∷ ms) (m ∷ placed ms n)) ≡ (p n || (p m || list_any p ms))
     by true ih = refl
-    by false ih = ap (λ z. p m || z) ih ∙ swap (p m) (p n) (list_any p ms)
+    by false ih = ap (λ z. p m || z) ih ∙ or_swap (p m) (p n) (list_any p ms)
 
 placed_all : (p : ℕ → Bool) (ms : List ℕ) (n : ℕ) → p n ≡ true → list_all p ms ≡ true → list_all p (placed ms n) ≡ true
 placed_all p [] n h k = and_from _ _ h refl

@@ -1,5 +1,5 @@
 -- The pending requests of a router, as a list of rows in the order in which they began, and what each call makes of it.
-use Rattle.std.specs.Prelude.{◌≡◌, ℕ, zero, suc, ◌+◌, ◌-◌, ◌^◌, ◌==◌, ◌&&◌, not, nat_le, Bool, true, false, List, [], ◌∷◌, ◌++◌, length, map, filter, slice_set, Option, Some, if◌then◌else◌}
+use Rattle.std.specs.Prelude.{◌≡◌, ℕ, zero, suc, ◌+◌, ◌-◌, ◌^◌, ◌==◌, ◌&&◌, not, nat_le, Bool, true, false, List, [], ◌∷◌, ◌++◌, length, map, filter, Option, Some, if◌then◌else◌}
 use Rattle.std.specs.List.{list_any, list_all, find, fold, flat_map}
 use Rattle.std.specs.Option.{option_and_then, option_map_or, option_to_list}
 use Rattle.zr_id.specs.declared.link.LinkNo.{LinkNo}
@@ -43,15 +43,6 @@ first_free taken (suc steps) n = if taken n then first_free taken steps (n + 1) 
 -- the least number, from 1, that isn't pending on a link; it is found after at most as many steps as numbers are pending there
 abbrev pub free_number : LinkNo → List RowState → ℕ
 free_number link rows = first_free (λ n. is_pending (branch link n) rows) (length (numbers_on link rows)) 1
-
--- flags of numbers, the first that of 1, once the flag of a number is set, where it has one
-abbrev pub marked : List Bool → ℕ → List Bool
-marked flags number = if number == 0 then flags else slice_set flags (number - 1) true
-
--- the number of the first flag that isn't set, or one more than there are flags; n is the number of the first flag
-abbrev pub first_unset : List Bool → ℕ → ℕ
-first_unset [] n = n
-first_unset (f ∷ fs) n = if f then first_unset fs (n + 1) else n
 
 -- as many numbers are pending on the link as there are of 32 bits from 1 on
 abbrev pub is_full : LinkNo → List RowState → Bool

@@ -1,5 +1,5 @@
 -- A request along its route is, on the link of each number, what the definition of routing says, and it is pending there as that says.
-use Rattle.std.proofs.Common.{◌≡◌, ℕ, ◌==◌, ◌<◌, arith, Bool, true, false, cond, List, [], ◌∷◌, ◌++◌, append-nil, suc, length, Option, Some, None, map, filter, refl, sym, ap, ◌∙◌}
+use Rattle.std.proofs.Common.{◌≡◌, ℕ, ◌<◌, arith, Bool, true, List, [], ◌∷◌, ◌++◌, append-nil, suc, length, Option, map, filter, refl, sym, ap, ◌∙◌}
 use Rattle.std.specs.List.{list_any}
 use Rattle.zr_id.specs.declared.link.LinkNo.{LinkNo}
 use Rattle.zr_msg.specs.declared.content.Parts.{Parts}
@@ -20,11 +20,11 @@ use Rattle.zr_push_sought.specs.Sought.{sought_by}
 use Rattle.zr_push.proofs.Stops.{kept_same, is_told, told_stops, on_kept, told_each}
 use Rattle.zr_pend_spec.specs.Held.{GatheringState}
 use Rattle.zr_node_spec.specs.Queries.{gathering_if, is_asked, links_along, asked_links, tree_for, request_along, final_at_once, has_no_number, sends_request, after_request, asked_over}
-use Rattle.zr_node_spec.specs.Tables.{TableState, AreNumbered, link_at}
+use Rattle.zr_node_spec.specs.Tables.{TableState, AreNumbered}
 use Rattle.zr_node_spec.specs.Event.{on_link, Tells, TellsPrefix}
 use Rattle.zr_lists.specs.Prefix.{IsPrefixBehind}
-use Rattle.zr_node_spec.proofs.Links.{ascending_behind, none_behind}
 use Rattle.zr_node_spec.proofs.Told.{tells_list, tells_prefix}
+use Rattle.zr_node_spec.proofs.Apart.{kept_differ}
 use Rattle.zr_query.specs.Asking.{IsRouteOf, links_of, asked_of, request_for, each_asked, all_asked, sent_by}
 use Rattle.zr_query.proofs.Told.{ended_at_once}
 
@@ -143,25 +143,6 @@ module _ (t : TableState) (rows : List RowState) (from : Asker) (tree : List ℕ
     room_is b k = ap (λ ls. has_no_number rows ls) (sym links_are) ∙ k
 
 -- ---- the links of a route differ
-
--- what no link has isn't among those that a test keeps
-none_kept : (test : LinkPeer → Bool) (n : ℕ) (links : List LinkPeer) → link_at links n ≡ None → list_any (λ k. k.0 == n) (map (λ l. l.link) (filter test links)) ≡ false
-none_kept test n [] h = refl
-none_kept test n (l ∷ links) h = by (test l) (l.link.0 == n) refl (none_kept test n links) h
-  where
-    by : (t b : Bool) → (l.link.0 == n) ≡ b → (link_at links n ≡ None → list_any (λ k. k.0 == n) (map (λ k. k.link) (filter test links)) ≡ false)
-        → cond b (Some l) (link_at links n) ≡ None → list_any (λ k. k.0 == n) (map (λ k. k.link) (cond t (l ∷ filter test links) (filter test links))) ≡ false
-    by t true e ih k = cc
-    by true false e ih k = rw e (ih k)
-    by false false e ih k = ih k
-
-pub kept_differ : (test : LinkPeer → Bool) (links : List LinkPeer) → AreNumbered links → differ (map (λ l. l.link) (filter test links)) ≡ true
-kept_differ test [] up = refl
-kept_differ test (l ∷ links) up = by (test l) (kept_differ test links (ascending_behind l links up))
-  where
-    by : (t : Bool) → differ (map (λ k. k.link) (filter test links)) ≡ true → differ (map (λ k. k.link) (cond t (l ∷ filter test links) (filter test links))) ≡ true
-    by true ih = rw (none_kept test l.link.0 links (none_behind l links up)) ih
-    by false ih = ih
 
 pub route_differs : (t : TableState) (from : ℕ) (tree : List ℕ) (target : Target) (key : List ℕ) (stops : List RouteLink) → AreNumbered t.links → stops ≡ route_of t tree (sought_by target) key → differ (asked_of stops from) ≡ true
 route_differs t from tree target key stops up e =

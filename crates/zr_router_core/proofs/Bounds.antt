@@ -2,15 +2,13 @@
 use Rattle.std.proofs.Common.{◌≡◌, ℕ, ◌+◌, ◌*◌, ◌≤◌, not, Bool, true, false, cond, List, [], ◌∷◌, Option, Some, None, length, refl, sym, ap, subst, ◌∙◌, arith}
 use Rattle.std.specs.Prelude.{nat_lt}
 use Rattle.std.specs.declared.cmp.Ordering.{Ordering}
-use Rattle.std.specs.List.{list_any, fold, sum_by, filter, AllByRecursion}
+use Rattle.std.specs.List.{fold, sum_by}
 use Rattle.std.specs.Cmp.Lexicographic.{slice_cmp}
 use Rattle.std.specs.Option.{option_map_or}
 use Rattle.std.specs.Ordering.{is_eq, nat_cmp}
 use Rattle.std.proofs.lemmas.List.Sums.{sum_by-cons}
 use Rattle.zr_id.specs.Zid.{is_named}
-use Rattle.zr_id.specs.Record.{RecordState}
 use Rattle.zr_id.specs.declared.link.LinkNo.{LinkNo}
-use Rattle.zr_graph.specs.Base.{BaseState, is_newer, kept}
 use Rattle.zr_graph.proofs.Names.{same_refl as name_itself}
 use Rattle.zr_lists.specs.Ascending.{at_key, has_key, put, without}
 use Rattle.zr_log_set.specs.Decls.{with_decl, without_decl, set_of}
@@ -26,10 +24,6 @@ use Rattle.zr_msg.specs.declared.event.Event.{Event}
 use Rattle.zr_msg.specs.declared.event.Event.TheVariants.{Up, Down, From}
 use Rattle.zr_msg.specs.declared.msg.Msg.{Msg}
 use Rattle.zr_msg.specs.declared.msg.Msg.TheVariants.{Sub, Unsub, Token, Untoken, Able, Unable, Interest, EndInterest, ToldSub, ToldAble, ToldUnsub, ToldToken, ToldUntoken, ToldUnable, ToldEnd, Push, Request, Response, Final, State, Step, Snap}
-use Rattle.zr_msg.specs.declared.peer.LinkPeer.{LinkPeer}
-use Rattle.zr_msg.specs.Peer.{PeerState}
-use Rattle.zr_msg.specs.declared.peer.Role.{Role}
-use Rattle.zr_msg.specs.declared.peer.Role.TheVariants.{Client, Router}
 use Rattle.zr_local.specs.Clients.{client_link, interests_on, with_interests, noted, clients_left}
 use Rattle.zr_local.specs.Interests.{interest_id}
 use Rattle.zr_local.specs.Rows.{Key, row_key, key_cmp, declared, undeclared, left}
@@ -48,7 +42,8 @@ use Rattle.zr_node_spec.specs.Queries.{link_no}
 use Rattle.zr_node_spec.specs.Tables.{TableState, leads_to_client, leads_to_router, link_at}
 use Rattle.zr_node_spec.proofs.Links.{find_passes}
 use Rattle.zr_node_spec.specs.State.{NodeState, tables}
-use Rattle.zr_node_spec.specs.Table.{row, key_of, able_kind, live, base_up, base_parted, base_down, base_told, with_rows, rows_declared, rows_undeclared, rows_left, clients_noted, known_step, known_snap, after}
+use Rattle.zr_node_spec.specs.Table.{row, key_of, able_kind, live, base_up, base_down, base_told, with_rows, rows_declared, rows_undeclared, rows_left, clients_noted, known_step, known_snap, after}
+use Rattle.zr_node_spec.proofs.OwnName.{me_up, me_down, me_told}
 use Rattle.zr_told_spec.specs.Rows.{most_id, lacks_ids, one_lacks_ids, others}
 use Rattle.zr_told_spec.specs.Wanted.{wanted}
 use Rattle.zr_told_spec.proofs.Few.{few_are_wanted}
@@ -135,28 +130,6 @@ snap_count me known source number ds = by (is_newer_log known source number)
     by : (t : Bool) → foreign me (cond t (with_log known source number (set_of ds)) known).logs ≤ foreign me known.logs + length ds
     by true = other_count me known source number (length ds) (set_of ds) (omega (arith, set_long [] ds))
     by false = omega arith
-
--- ---- the router itself stays who it is
-
-me_up : (b : BaseState) (peer : PeerState) (role : Role) → (base_up b peer role).me ≡ b.me
-me_up b peer Client = refl
-me_up b peer Router = refl
-
-me_parted : (b : BaseState) (peer : PeerState) (role : Role) → (base_parted b peer role).me ≡ b.me
-me_parted b peer Client = refl
-me_parted b peer Router = refl
-
-me_down : (b : BaseState) (o : Option LinkPeer) → (base_down b o).me ≡ b.me
-me_down b None = refl
-me_down b (Some l) = me_parted b l.peer l.peer.role
-
-me_told : (n : NodeState) (from : ℕ) (told : RecordState) → (base_told n from told).me ≡ n.base.me
-me_told n from told = by (leads_to_router n.links from) (is_newer n.base told)
-  where
-    by : (a b : Bool) → (cond a (cond b (kept n.base told) n.base) n.base).me ≡ n.base.me
-    by true true = refl
-    by true false = refl
-    by false b = refl
 
 -- ---- how many declarations are known after each event
 

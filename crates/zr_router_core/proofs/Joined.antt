@@ -16,7 +16,7 @@ use Rattle.zr_msg.specs.declared.error.NodeError.TheVariants as e
 use Rattle.zr_msg.specs.declared.event.Event.{Event}
 use Rattle.zr_msg.specs.declared.msg.Msg.{Msg}
 use Rattle.zr_msg.specs.declared.peer.LinkPeer.{LinkPeer}
-use Rattle.zr_node_spec.specs.Tables.{TableState, is_router, link_at, leads_to_client}
+use Rattle.zr_node_spec.specs.Tables.{TableState, link_at, leads_to_client}
 use Rattle.zr_node_spec.specs.Early.{is_early}
 use Rattle.zr_node_spec.specs.Event.{on_link, Sends, SendsPrefix, Tells, TellsPrefix}
 use Rattle.zr_lists.specs.Prefix.{IsPrefixOf}
@@ -27,10 +27,12 @@ use Rattle.zr_told_spec.specs.Rows.{Maps, map_on, one_lacks_ids, others, IsAsWan
 use Rattle.zr_told_spec.specs.Told.{ToldMap}
 use Rattle.zr_told_spec.specs.declared.place.Place.{Place}
 use Rattle.zr_told_spec.proofs.Events.{nothing_told}
+use Rattle.zr_told_spec.proofs.Hubs.{to_client}
 use Rattle.zr_node.specs.Answer.{refusal_of}
 use Rattle.zr_node.proofs.Early.{behind_late, worn_late}
 use Rattle.zr_node.proofs.Refusals.{not_memory, not_spent}
 use Rattle.zr_node.proofs.Retold.{told_both, prefix_first, prefix_second}
+use Rattle.zr_node.proofs.Handled.{error, same_error}
 use Rattle.zr_router_core.specs.Done.{hub_of, hub_refusal_of, said_on, IsHandled, IsNodeDone, IsToldAll, IsToldOf, IsDoneBoth, IsRefusedBoth, IsDone, IsLacking, IsLasting, IsRoomy, answer_of, have_ids}
 use Rattle.zr_router_core.specs.Places.{AreKeys, changed_places, is_quiet}
 use Rattle.zr_router_core.specs.Ready.{is_own, is_none, tells_nobody, IsToTell}
@@ -210,9 +212,6 @@ new_sound me = record { awake = refl; right = record { wanted = λ k p. refl; cl
 
 -- ---- what was told is found by link
 
-abbrev to_client : LinkPeer → Bool
-to_client l = not (is_router l.peer.role)
-
 -- on the link of a number, whatever stands before it
 found_there : (ls : List LinkPeer) (f : ℕ → ToldMap) (k : ℕ) (b : Bool) → list_any (λ l. l.link.0 == k && to_client l) ls ≡ b → map_on (by_link ls f) k ≡ cond b (f k) []
 found_there [] f k b h = ap (λ s. cond s (f k) []) h
@@ -267,12 +266,6 @@ module _ (n : NodeState) (told : Maps) (sound : IsSound n told) where
 
     pub hub_prefix : (said all : List (LinkNo × Msg)) → TellsPrefix (said_on n told event) said all → HubSendsPrefix (hub_of n told) event said all
     hub_prefix said all t = record { sent = t.sent; appended = t.appended; each = λ to. subst (λ (ms : List Msg). IsPrefixOf (on_link to t.sent) ms) (said_is to.0) (t.each to) }
-
-abbrev error : NodeError → Result (Unit {0}) NodeError
-error why = Err why
-
-same_error : (x y : NodeError) → error x ≡ error y → x ≡ y
-same_error x y h = cc
 
 -- where memory ran out in a router that wasn't spent, no refusal is found without memory
 pub node_lacking : (n : NodeState) (event : Event) (why : NodeError) (said all : List (LinkNo × Msg)) → n.spent ≡ false → why ≡ e.NoMemory → (error why ≡ error e.NoMemory → is_early (refusal_of n event) ≡ false)

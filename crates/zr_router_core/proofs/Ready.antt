@@ -15,11 +15,11 @@ use Rattle.zr_node_spec.specs.Tables.{TableState, leads_to_client}
 use Rattle.zr_node_spec.specs.State.{NodeState, tables}
 use Rattle.zr_node_spec.specs.Table.{live, clients_noted, after}
 use Rattle.zr_told_spec.specs.Hub.{Asking, asking_of, asking_on, told_with, told_after}
-use Rattle.zr_told_spec.specs.Rows.{others, is_again, IsAsWanted, IsAsWantedBut, IsNoted}
+use Rattle.zr_told_spec.specs.Rows.{others, IsAsWanted, IsAsWantedBut, IsNoted}
 use Rattle.zr_told_spec.specs.Told.{ToldMap}
 use Rattle.zr_told_spec.specs.declared.place.Place.{Place}
-use Rattle.zr_told_spec.proofs.Events.{as_wanted, nothing_told}
-use Rattle.zr_told_spec.proofs.Hubs.{noted_is_live}
+use Rattle.zr_told_spec.proofs.Events.{nothing_told}
+use Rattle.zr_told_spec.proofs.Hubs.{noted_is_live, with_wanted}
 use Rattle.zr_told_spec.proofs.Touching.{changes_touch}
 use Rattle.zr_router_core.specs.Done.{have_ids}
 use Rattle.zr_router_core.specs.Places.{AreKeys, changed_places}
@@ -162,10 +162,6 @@ to_tell n event told places b e keys ids = record {
 }
 
 -- ---- after it
-
-with_wanted : (t : TableState) (m : ToldMap) (k : ℕ) (o : Option Asking) → IsAsWanted (others t k) (interests_on t.clients k) (told_with t m k o)
-with_wanted t m k None = as_wanted (λ p. false) (others t k) (interests_on t.clients k) m
-with_wanted t m k (Some x) = as_wanted (is_again x.future (others t k) x.interest) (others t k) (interests_on t.clients k) m
 
 pub still_right : (t : TableState) (event : Event) (places : Option (List Place)) (told now : ℕ → ToldMap) → IsToTell t event places told → ((k : ℕ) → now k ≡ told_after t told event k) → IsRight t now
 still_right t event places told now h e = record {

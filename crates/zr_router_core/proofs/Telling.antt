@@ -1,5 +1,5 @@
 -- What the clients of a router are told of an event: all of them, one of them, or none.
-use Rattle.std.proofs.Common.{◌≡◌, Result, Ok, Err, OnOk, OnErr, ℕ, ◌==◌, ◌&&◌, ◌||◌, not, Bool, true, false, cond, List, [], ◌∷◌, ◌++◌, Option, Some, None, map, filter, refl, sym, ap, subst, ◌∙◌}
+use Rattle.std.proofs.Common.{◌≡◌, Result, Ok, Err, OnOk, OnErr, ℕ, ◌==◌, ◌&&◌, ◌||◌, not, Bool, true, false, cond, List, [], ◌∷◌, ◌++◌, Option, Some, None, map, refl, sym, ap, subst, ◌∙◌}
 use Rattle.std.specs.List.{list_any}
 use Rattle.std.specs.Option.{option_map_or}
 use Rattle.std.proofs.lemmas.Bool.{true≢false, false≢true, eqb-true, eq-eqb}
@@ -26,7 +26,8 @@ use Rattle.zr_told_spec.specs.Rows.{Maps, map_on, sent_on, others, touches, tell
 use Rattle.zr_told_spec.specs.Told.{ToldMap}
 use Rattle.zr_told_spec.specs.declared.place.Place.{Place}
 use Rattle.zr_told_spec.proofs.Events.{nothing_is_told}
-use Rattle.zr_told_spec.proofs.Hubs.{tells_each}
+use Rattle.zr_told_spec.proofs.Hubs.{tells_each, sent_there}
+use Rattle.zr_told_spec.proofs.Touching.{none_touch}
 use Rattle.zr_router_core.specs.Done.{IsToldAll, IsToldOf}
 use Rattle.zr_router_core.specs.Ready.{is_own_msg, is_own, is_own_on, still_told, IsButAt, IsReady, IsToTell, is_nowhere, is_none, is_silent}
 
@@ -75,10 +76,6 @@ not_own_on (From link msg) k h = ap (λ z. link.0 == k && z) h ∙ by (link.0 ==
     by false = refl
 
 -- ---- who was told of what is wanted
-
-none_touch : (qs : List Place) (p : Place) → list_any (λ q. touches [] q p) qs ≡ false
-none_touch [] p = refl
-none_touch (q ∷ qs) p = none_touch qs p
 
 wanted_none : (ds : List Decl) (is : List LiveInterest) (m : ToldMap) → is ≡ [] → m ≡ [] → IsAsWanted ds is m
 wanted_none ds is m e f = subst (λ (z : List LiveInterest). IsAsWanted ds z m) (sym e) (subst (λ (z : ToldMap). IsAsWanted ds [] z) (sym f) (λ p. refl))
@@ -183,22 +180,6 @@ module _ (t : TableState) (event : Event) (told : Maps) where
       all_prefix said all h = tells_prefix (λ k. sends_told t (map_on told k) event k) said (tells_all t t.clients told) all all_sent h
 
 -- ---- one client has a new interest, or one less
-
-sent_there : (link to : LinkNo) (ms : List Msg) → on_link to (sent_on link ms) ≡ cond (link.0 == to.0) ms []
-sent_there link to [] = by (link.0 == to.0)
-  where
-    none : List Msg
-    none = []
-
-    by : (b : Bool) → none ≡ cond b none none
-    by true = refl
-    by false = refl
-sent_there link to (m ∷ ms) = by (link.0 == to.0) (sent_there link to ms)
-  where
-    by : (b : Bool) → on_link to (sent_on link ms) ≡ cond b ms [] →
-        map (λ x. x.1) (cond b ((link, m) ∷ filter (λ x. x.0.0 == to.0) (sent_on link ms)) (filter (λ x. x.0.0 == to.0) (sent_on link ms))) ≡ cond b (m ∷ ms) []
-    by true ih = ap (λ z. m ∷ z) ih
-    by false ih = ih
 
 module _ (t : TableState) (link : LinkNo) (msg : Msg) (own : is_own_msg msg ≡ true) (told : Maps) (r : IsReady t (From link msg) (Some []) (λ k. map_on told k)) where
   calm_else : (k : ℕ) → (link.0 == k) ≡ false → IsCalm t (From link msg) told k

@@ -9,7 +9,7 @@ use Rattle.zr_router_queue.specs.Tables.{Tables, advanced, new_tables, replay, r
 use Rattle.zr_router_queue.proofs.InStep.{and_both}
 use Rattle.zr_router_queue.proofs.Kept.{IsKept, kept_after, kept_new, neither}
 
-none_is : {X : Type 0} (o : Option X) → is_none o ≡ true → o ≡ None
+pub none_is : {X : Type 0} (o : Option X) → is_none o ≡ true → o ≡ None
 none_is None is = refl
 none_is (Some x) is = cc
 

@@ -1,24 +1,22 @@
 -- What a router knows of logs, where each change and each snapshot was taken over only if it might be: what the clients of each router declare is
 -- a set that isn't too heavy, and the own one is that of what the own clients have declared.
-use Rattle.std.proofs.Common.{◌≡◌, ℕ, ◌+◌, ◌<◌, ◌≤◌, ◌==◌, nat_lt, not, Bool, true, false, cond, List, [], ◌∷◌, map, Option, Some, None, Ordering, Less, refl, sym, ap, subst, ◌∙◌, arith}
+use Rattle.std.proofs.Common.{◌≡◌, ℕ, ◌+◌, ◌<◌, ◌≤◌, ◌==◌, nat_lt, not, Bool, true, false, cond, List, [], ◌∷◌, Option, Some, None, Ordering, Less, refl, sym, ap, subst, ◌∙◌, arith}
 use Rattle.std.specs.Cmp.Lexicographic.{slice_cmp}
 use Rattle.std.specs.List.{AllByRecursion, fold}
 use Rattle.std.specs.Option.{option_map_or}
 use Rattle.std.specs.Ordering.{nat_cmp}
 use Rattle.std.proofs.lemmas.Bool.{true≢false, and_parts, eqb-true, ltb-true, not-true}
-use Rattle.std.proofs.lemmas.List.Sums.{fold-append}
 use Rattle.std.proofs.lemmas.Map.Keys.{sorted_head, sorted_tail}
 use Rattle.zr_graph.proofs.Names.{same_is, same_refl}
 use Rattle.zr_id.specs.Zid.{is_named}
 use Rattle.zr_msg.specs.declared.decl.Decl.{Decl}
 use Rattle.zr_lists.specs.Ascending.{IsAscending, at_key}
-use Rattle.zr_log_set.specs.Decls.{IsSet, set_of, weight, most_weight, with_decl, without_decl}
+use Rattle.zr_log_set.specs.Decls.{IsSet, set_of, weight, most_weight}
 use Rattle.zr_log_set.proofs.Decls.{all_weigh, set_all, set_none}
 use Rattle.zr_lists.proofs.Order.{comes, is_itself, name_order}
-use Rattle.zr_lists.proofs.Puts.{All-put, at-put}
-use Rattle.zr_local.specs.Rows.{came, declared_set, decls_of, gone, weight_of}
+use Rattle.zr_lists.proofs.Puts.{All-put}
+use Rattle.zr_local.specs.Rows.{declared_set, decls_of, weight_of}
 use Rattle.zr_local.specs.declared.row.Row.{Row}
-use Rattle.zr_local.proofs.Leads.{lead_on}
 use Rattle.zr_log.specs.declared.error.KnownError.TheVariants.{Gap, TextLimit}
 use Rattle.zr_log.specs.declared.log.Log.{Log}
 use Rattle.zr_log.specs.Known.{KnownState, AreInOrder, after_own, after_snap, after_step, decls, is_gap, is_newer, is_next, log_of, nothing_known, over_limit, position, refuses_snap, refuses_step, with_log}
@@ -26,6 +24,7 @@ use Rattle.zr_log.specs.Log.{Change, change_held, change_more, changed}
 use Rattle.zr_log.proofs.Changes.{set_changed}
 use Rattle.zr_log.proofs.Logs.{in_order_none, in_order_put, source_of}
 use Rattle.zr_node_spec.specs.Changes.{after_changes, changes}
+use Rattle.zr_node_spec.proofs.Changes.{decls_with, me_changes, decls_fold, rows_lead}
 use Rattle.zr_lists.proofs.Each.{All-each}
 use Rattle.zr_router_queue.proofs.Weights.{changed_light, within_limit}
 
@@ -53,15 +52,6 @@ taken_with k source number set h some up light = record {
   in_order = in_order_put k.me k.logs (record { source = source; position = number; decls = set }) h.in_order some;
   each = All-put (slice_cmp nat_cmp) source_of name_order (IsTaken k.me) k.logs (record { source = source; position = number; decls = set }) h.each (up, light);
 }
-
-decls_with : (k : KnownState) (source : List ℕ) (number : ℕ) (set : List Decl) (z : List ℕ) → decls (with_log k source number set) z ≡ cond (is_named source z) set (decls k z)
-decls_with k source number set z =
-    ap (λ (o : Option Log). option_map_or (λ l. l.decls) o []) (at-put (slice_cmp nat_cmp) source_of name_order k.logs (record { source = source; position = number; decls = set }) z)
-    ∙ by (is_named source z)
-  where
-    by : (t : Bool) → option_map_or (λ (l : Log). l.decls) (cond t (Some (record { source = source; position = number; decls = set })) (log_of k z)) [] ≡ cond t set (decls k z)
-    by true = refl
-    by false = refl
 
 set_known : (k : KnownState) (source : List ℕ) → AreTaken k → IsSet (decls k source)
 set_known k source h = among k.logs (All-each (IsTaken k.me) (λ l. IsSet l.decls) k.logs (λ l t. t.0) h.each)
@@ -119,39 +109,12 @@ taken_changes k (c ∷ cs) h =
     (taken_with k k.me (position k k.me + 1) (changed (decls k k.me) c) h (omega arith) (set_changed (decls k k.me) c (set_known k k.me h))
     (λ other. absurd (true≢false (sym (same_refl k.me) ∙ other))))
 
-me_changes : (k : KnownState) (cs : List Change) → (after_changes k cs).me ≡ k.me
-me_changes k [] = refl
-me_changes k (c ∷ cs) = me_changes (after_own k c) cs
-
-decls_changes : (k : KnownState) (cs : List Change) → decls (after_changes k cs) k.me ≡ fold changed (decls k k.me) cs
-decls_changes k [] = refl
-decls_changes k (c ∷ cs) =
-    decls_changes (after_own k c) cs
-    ∙ ap (λ s. fold changed s cs)
-    (decls_with k k.me (position k k.me + 1) (changed (decls k k.me) c) k.me ∙ ap (λ t. cond t (changed (decls k k.me) c) (decls k k.me)) (same_refl k.me))
-
-outs : (ds s : List Decl) → fold changed s (map (λ d. record { added = false; decl = d }) ds) ≡ fold without_decl s ds
-outs [] s = refl
-outs (d ∷ ds) s = outs ds (without_decl s d)
-
-ins : (ds s : List Decl) → fold changed s (map (λ d. record { added = true; decl = d }) ds) ≡ fold with_decl s ds
-ins [] s = refl
-ins (d ∷ ds) s = ins ds (with_decl s d)
-
--- the changes of rows lead from their set to the next one
-rows_lead : (before after : List Row) → fold changed (declared_set before) (changes before after) ≡ declared_set after
-rows_lead before after =
-    fold-append changed (declared_set before) (map (λ d. record { added = false; decl = d }) (gone before after)) (map (λ d. record { added = true; decl = d }) (came before after))
-    ∙ ap (λ s. fold changed s (map (λ d. record { added = true; decl = d }) (came before after))) (outs (gone before after) (declared_set before))
-    ∙ ins (came before after) (fold without_decl (declared_set before) (gone before after))
-    ∙ lead_on before after
-
 pub kept_rows : (k : KnownState) (before after : List Row) → AreKept k before → AreKept (after_changes k (changes before after)) after
 kept_rows k before after h =
     let cs : List Change = changes before after in
     record {
       taken = taken_changes k cs h.taken;
-      own = ap (decls (after_changes k cs)) (me_changes k cs) ∙ decls_changes k cs ∙ ap (λ s. fold changed s cs) h.own ∙ rows_lead before after;
+      own = ap (decls (after_changes k cs)) (me_changes k cs) ∙ decls_fold k cs ∙ ap (λ s. fold changed s cs) h.own ∙ rows_lead before after;
     }
 
 -- ---- all are light

@@ -208,8 +208,3 @@ refused_text number error = codes "line " ++ decimal number ++ codes ": " ++ ref
 -- what is said of a script that is too long
 abbrev pub too_long_text : List ℕ
 too_long_text = codes "script too long" ++ line_end
-
--- what is said where the program's words are not such as it takes
-abbrev pub usage_text : List ℕ
-usage_text =
-    codes "usage: zrd net [--summary] [--threads N] / serve --id ID --listen ADDRESS [DIAL]... / make --number N --routers R --clients C --messages M" ++ line_end

@@ -1,21 +1,23 @@
 -- The clients of a router by their links: what is said of each link is said of each client.
-use Rattle.std.proofs.Common.{Less, ◌≡◌, ℕ, ◌==◌, true, false, cond, List, [], ◌∷◌, map, refl, sym, ap, ◌∙◌, subst, arith}
+use Rattle.std.proofs.Common.{Less, ◌≡◌, ℕ, ◌==◌, false, cond, List, [], ◌∷◌, map, refl, sym, ap, ◌∙◌, subst}
 use Rattle.std.specs.declared.option.Option.{Option}
 use Rattle.std.specs.declared.option.Option.TheVariants.{None, Some}
-use Rattle.std.specs.List.{find, list_any, AllByRecursion}
+use Rattle.std.specs.List.{find, AllByRecursion}
 use Rattle.std.specs.List.Sorted.{IsStrictlySortedBy}
 use Rattle.std.specs.Option.{option_map_or}
 use Rattle.std.specs.Ordering.{is_eq, nat_cmp}
 use Rattle.zr_lists.specs.Ascending.{at_key}
 use Rattle.zr_lists.proofs.Numbers.{nat_eq_is}
+use Rattle.zr_lists.proofs.Order.{is_itself, nat_order}
 use Rattle.zr_local.specs.Clients.{AreByLink, client_link, interests_on}
 use Rattle.zr_local.specs.declared.interest.ClientInterests.{ClientInterests}
 use Rattle.zr_local.specs.declared.interest.Interest.{Interest}
 use Rattle.zr_node_spec.specs.Tables.{TableState}
 use Rattle.zr_told_spec.specs.Told.{ToldMap}
-use Rattle.zr_told_spec.specs.Rows.{Maps, map_on, others, touches, told_changes, told_on, AreListed, IsAsWantedBut, AreAsWantedBut}
+use Rattle.zr_told_spec.specs.Rows.{Maps, map_on, others, told_changes, told_on, AreListed, IsAsWantedBut, AreAsWantedBut}
 use Rattle.zr_told_spec.specs.declared.place.Place.{Place}
 use Rattle.zr_told_spec.proofs.Events.{nothing_told}
+use Rattle.zr_told_spec.proofs.Touching.{none_touch}
 
 -- ---- their order
 
@@ -32,11 +34,8 @@ sorted_links (c ∷ cs) s = (on cs s.0, sorted_links cs s.1)
 own_found : (cs : List ClientInterests) → AreByLink cs → AllByRecursion (λ c. interests_on cs c.link.0 ≡ c.interests) cs
 unfolding IsStrictlySortedBy
 own_found [] s = tt
-own_found (c ∷ cs) s = (ap (λ z. option_map_or (λ d. d.interests) (cond z (Some c) (at_key nat_cmp client_link cs c.link.0)) []) (itself c.link.0), on cs s.0 (own_found cs s.1))
+own_found (c ∷ cs) s = (ap (λ z. option_map_or (λ d. d.interests) (cond z (Some c) (at_key nat_cmp client_link cs c.link.0)) []) (is_itself nat_cmp nat_order c.link.0), on cs s.0 (own_found cs s.1))
   where
-    itself : (n : ℕ) → is_eq (nat_cmp n n) ≡ true
-    itself n = grind arith
-
     other : (a b : ℕ) → nat_cmp a b ≡ Less → is_eq (nat_cmp a b) ≡ false
     other a b h = ap is_eq h
 
@@ -59,10 +58,6 @@ each_client qs t cs maps s w = on cs (own_found cs s)
     on (d ∷ ds) a = (subst (λ (z : List Interest). IsAsWantedBut qs (others t d.link.0) z (map_on maps d.link.0)) a.0 (w d.link.0), on ds a.1)
 
 -- ---- who has no interests
-
-none_touch : (qs : List Place) (p : Place) → list_any (λ q. touches [] q p) qs ≡ false
-none_touch [] p = refl
-none_touch (q ∷ qs) p = none_touch qs p
 
 -- so the map of one that isn't among the clients is empty
 pub all_listed : (qs : List Place) (t : TableState) (cs : List ClientInterests) (maps : Maps) → AreAsWantedBut qs t cs maps → AreListed cs maps

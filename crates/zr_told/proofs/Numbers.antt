@@ -22,6 +22,7 @@ use Rattle.zr_told_spec.proofs.Agree.{found_used}
 use Rattle.zr_told_spec.proofs.Sorted.{put_ascends}
 use Rattle.zr_told_spec.specs.declared.entry.Entry.{Entry}
 use Rattle.zr_told_spec.specs.declared.place.Place.{Place}
+use Rattle.zr_lists.proofs.Truths.{or_swap}
 
 -- ---- an entry where none was
 
@@ -29,17 +30,11 @@ pub used_put : (m : ToldMap) (p : Place) (v : Entry) (k : ℕ) → at m p ≡ No
 used_put [] p v k n = refl
 used_put (e ∷ es) p v k n = by (place_cmp p e.0) (λ z. used_put es p v k z) n
   where
-    swap : (a b c : Bool) → (a || (b || c)) ≡ (b || (a || c))
-    swap true true c = refl
-    swap true false c = refl
-    swap false true c = refl
-    swap false false c = refl
-
     by : (o : Ordering) → (at es p ≡ None → is_used (insert_entry place_cmp es p v) k ≡ (v.id == k || is_used es k)) → cond (is_eq o) (Some e.1) (at es p) ≡ None →
         is_used (match_ordering o ((p, v) ∷ e ∷ es) ((e.0, v) ∷ es) (e ∷ insert_entry place_cmp es p v)) k ≡ (v.id == k || (e.1.id == k || is_used es k))
     by Less ih h = refl
     by Equal ih h = absurd (none-some e.1 (sym h))
-    by Greater ih h = ap (λ z. e.1.id == k || z) (ih h) ∙ swap (e.1.id == k) (v.id == k) (is_used es k)
+    by Greater ih h = ap (λ z. e.1.id == k || z) (ih h) ∙ or_swap (e.1.id == k) (v.id == k) (is_used es k)
 
 pub differ_put : (m : ToldMap) (p : Place) (v : Entry) → at m p ≡ None → is_used m v.id ≡ false → ids_differ m → ids_differ (insert_entry place_cmp m p v)
 differ_put [] p v n u d = (refl, tt)

@@ -6,6 +6,7 @@ use Rattle.std.specs.Option.{is_some}
 use Rattle.std.specs.Map.{lookup}
 use Rattle.std.proofs.lemmas.Bool.{false≢true}
 use Rattle.std.proofs.lemmas.Option.{none-some, same_Some}
+use Rattle.std.proofs.Math.Bool.{or-false, or_assoc}
 use Rattle.zr_msg.specs.declared.decl.Decl.{Decl}
 use Rattle.zr_told_spec.specs.Place.{same}
 use Rattle.zr_told_spec.specs.Wanted.{fits, told_as, is_complete_at}
@@ -56,14 +57,6 @@ marked_here ds is t ms q a = by (t q) refl
 renamed : (ds : List Decl) (is : List Interest) (t u : Place → Bool) (ms : Marks) → AreMarked ds is t ms → ((p : Place) → t p ≡ u p) → AreMarked ds is u ms
 renamed ds is t u ms a e = λ p. a p ∙ ap (λ z. cond z (Some (mark_at ds is p)) None) (e p)
 
-or_false : (b : Bool) → (b || false) ≡ b
-or_false true = refl
-or_false false = refl
-
-or_assoc : (a b c : Bool) → ((a || b) || c) ≡ (a || (b || c))
-or_assoc true b c = refl
-or_assoc false b c = refl
-
 marked_fitting : (ds : List Decl) (is : List Interest) (t : Place → Bool) (q : Place) (ms : Marks) (i : Interest) → AreMarked ds is t ms → AreMarked ds is (λ p. t p || hits i q p) (mark_fitting ds is q ms i)
 marked_fitting ds is t q ms i a = by (fits i q)
   where
@@ -71,10 +64,10 @@ marked_fitting ds is t q ms i a = by (fits i q)
     by true =
         renamed ds is (λ p. (t p || same p q) || same p (told_as i q)) (λ p. t p || (same p q || same p (told_as i q))) (mark_here ds is (mark_here ds is ms q) (told_as i q))
         (marked_here ds is (λ p. t p || same p q) (mark_here ds is ms q) (told_as i q) (marked_here ds is t ms q a)) (λ p. or_assoc (t p) (same p q) (same p (told_as i q)))
-    by false = renamed ds is t (λ p. t p || false) ms a (λ p. sym (or_false (t p)))
+    by false = renamed ds is t (λ p. t p || false) ms a (λ p. sym (or-false (t p)))
 
 marked_one : (ds : List Decl) (is js : List Interest) (t : Place → Bool) (q : Place) (ms : Marks) → AreMarked ds is t ms → AreMarked ds is (λ p. t p || touches js q p) (fold (mark_fitting ds is q) ms js)
-marked_one ds is [] t q ms a = renamed ds is t (λ p. t p || false) ms a (λ p. sym (or_false (t p)))
+marked_one ds is [] t q ms a = renamed ds is t (λ p. t p || false) ms a (λ p. sym (or-false (t p)))
 marked_one ds is (i ∷ js) t q ms a =
     renamed ds is (λ p. (t p || hits i q p) || touches js q p) (λ p. t p || touches (i ∷ js) q p) (fold (mark_fitting ds is q) ms (i ∷ js))
     (marked_one ds is js (λ p. t p || hits i q p) q (mark_fitting ds is q ms i) (marked_fitting ds is t q ms i a))
@@ -82,7 +75,7 @@ marked_one ds is (i ∷ js) t q ms a =
 
 marked_all : (ds : List Decl) (is : List Interest) (t : Place → Bool) (qs : List Place) (ms : Marks) → AreMarked ds is t ms →
     AreMarked ds is (λ p. t p || list_any (λ q. touches is q p) qs) (fold (λ n q. fold (mark_fitting ds is q) n is) ms qs)
-marked_all ds is t [] ms a = renamed ds is t (λ p. t p || false) ms a (λ p. sym (or_false (t p)))
+marked_all ds is t [] ms a = renamed ds is t (λ p. t p || false) ms a (λ p. sym (or-false (t p)))
 marked_all ds is t (q ∷ qs) ms a =
     renamed ds is (λ p. (t p || touches is q p) || list_any (λ q. touches is q p) qs) (λ p. t p || list_any (λ q. touches is q p) (q ∷ qs)) (fold (λ n q. fold (mark_fitting ds is q) n is) ms (q ∷ qs))
     (marked_all ds is (λ p. t p || touches is q p) qs (fold (mark_fitting ds is q) ms is) (marked_one ds is is t q ms a))

@@ -1,17 +1,16 @@
 -- Each client with an interest that fits a place is found by the key of the interest, or wants all.
-use Rattle.std.proofs.Common.{◌≡◌, ℕ, ◌+◌, nat_lt, Bool, true, false, cond, ◌&&◌, ◌||◌, List, [], ◌∷◌, map, inl, refl, sym, ap, ◌∙◌, subst, arith}
+use Rattle.std.proofs.Common.{◌≡◌, ℕ, true, ◌&&◌, ◌||◌, List, [], ◌∷◌, map, inl, refl, sym, ap, ◌∙◌, subst}
 use Rattle.std.specs.declared.option.Option.{Option}
 use Rattle.std.specs.declared.option.Option.TheVariants.{None, Some}
 use Rattle.std.specs.Prelude.{is_none, IfSome}
 use Rattle.std.specs.List.Sorted.{IsStrictlySortedBy}
-use Rattle.std.specs.List.{filter, list_any, sum_by, AllByRecursion}
+use Rattle.std.specs.List.{filter, list_any, AllByRecursion}
 use Rattle.std.specs.Option.{option_map_or}
 use Rattle.std.specs.Ordering.{is_eq, nat_cmp}
-use Rattle.std.proofs.lemmas.Bool.{and_from, and_parts, lt-ltb, or_left, or_right}
-use Rattle.zr_lists.proofs.Truths.{same_test}
-use Rattle.std.proofs.lemmas.List.Sums.{sum_by-cons}
+use Rattle.std.proofs.lemmas.Bool.{and_from, and_parts, or_left, or_right}
 use Rattle.zr_index.specs.Meeting.{AreMeeting, meets_key}
 use Rattle.zr_index.specs.Pairs.{Pairs, AreSame}
+use Rattle.zr_index.proofs.Tests.{any_same, flipped, meets_is}
 use Rattle.zr_key.specs.Key.{chunks, IsKeyText}
 use Rattle.zr_lists.specs.Ascending.{has_key}
 use Rattle.zr_lists.proofs.Elements.{each_in, flat_in, in_each}
@@ -29,23 +28,6 @@ use Rattle.zr_told_spec.specs.declared.place.Place.{Place}
 use Rattle.zr_told_interested.specs.Among.{AreAmong}
 use Rattle.zr_told_interested.specs.Keys.{AreKeyed, IsKeyed, is_met, keyed, keyless, pair_of, pairs_on, wants_all}
 
--- ---- lists of pairs of the same weights
-
-module _ {V : Type 0} (t : List (List ℕ) × V → Bool) where
-  abbrev passing : List (List ℕ) × V → ℕ
-  passing p = cond (t p) 1 0
-
-  any_counts : (ps : Pairs V) → list_any t ps ≡ nat_lt 0 (sum_by passing ps)
-  any_counts [] = refl
-  any_counts (p ∷ ps) = by (t p) (any_counts ps) ∙ ap (nat_lt 0) (sym (sum_by-cons passing p ps))
-    where
-      by : (b : Bool) → list_any t ps ≡ nat_lt 0 (sum_by passing ps) → (b || list_any t ps) ≡ nat_lt 0 (cond b 1 0 + sum_by passing ps)
-      by true ih = sym (lt-ltb 0 (1 + sum_by passing ps) (omega arith))
-      by false ih = let e : sum_by passing ps ≡ 0 + sum_by passing ps = omega arith in ih ∙ ap (nat_lt 0) e
-
-  any_same : (ps qs : Pairs V) → AreSame ps qs → list_any t ps ≡ list_any t qs
-  any_same ps qs h = any_counts ps ∙ ap (nat_lt 0) (h passing) ∙ sym (any_counts qs)
-
 -- ---- of two keys each meets the other
 
 turned : (a b : List ℕ) → IsKeyText a → IsKeyText b → texts_meet a b ≡ true → texts_meet b a ≡ true
@@ -54,21 +36,11 @@ turned a b ka kb h =
     let m = (meets_right a b ka kb).0 h in
     (meets_right b a kb ka).1 (m.0, m.1, m.3, m.2)
 
-meets_is : (a b : List ℕ) → texts_meet a b ≡ meets_key b (chunks a)
-unfolding texts_meet
-meets_is a b = refl
-
 -- ---- what is found
-
-flipped : (k n : ℕ) → is_eq (nat_cmp k n) ≡ is_eq (nat_cmp n k)
-flipped k n = same_test (is_eq (nat_cmp k n)) (is_eq (nat_cmp n k)) (λ e. back k n (is_same nat_cmp nat_order k n e)) (λ e. back n k (is_same nat_cmp nat_order n k e))
-  where
-    back : (a b : ℕ) → a ≡ b → is_eq (nat_cmp b a) ≡ true
-    back a b e = ap (λ z. is_eq (nat_cmp z a)) (sym e) ∙ is_itself nat_cmp nat_order a
 
 -- of the keys that meet one the links are found
 pub met_by : (ps : Pairs ℕ) (key found links : List ℕ) (n : ℕ) → links ≡ found → AreMeeting nat_cmp key ps found → list_any (λ k. is_eq (nat_cmp k n)) links ≡ is_met ps key n
-met_by ps key found links n e m = ap (λ ks. list_any (λ k. is_eq (nat_cmp k n)) ks) e ∙ same_any (λ k. is_eq (nat_cmp k n)) (λ k. is_eq (nat_cmp n k)) found (λ k i. flipped k n) ∙ m.exactly n
+met_by ps key found links n e m = ap (λ ks. list_any (λ k. is_eq (nat_cmp k n)) ks) e ∙ same_any (λ k. is_eq (nat_cmp k n)) (λ k. is_eq (nat_cmp n k)) found (λ k i. flipped nat_cmp nat_order k n) ∙ m.exactly n
 
 -- the pair of a key, and that of one that may be none
 abbrev pair_at : List ℕ → ℕ → List (List ℕ) × ℕ

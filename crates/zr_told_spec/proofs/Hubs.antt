@@ -1,5 +1,5 @@
 -- After each event of a router its clients were told of what is wanted, and heard just that.
-use Rattle.std.proofs.Common.{◌≡◌, ℕ, ◌==◌, Bool, true, false, cond, not, List, [], ◌∷◌, ◌++◌, map, filter, refl, sym, ap, ◌∙◌, subst, arith}
+use Rattle.std.proofs.Common.{◌≡◌, ℕ, ◌==◌, Bool, true, false, cond, not, List, [], ◌∷◌, ◌++◌, map, filter, refl, sym, ap, ◌∙◌, subst}
 use Rattle.std.specs.declared.option.Option.{Option}
 use Rattle.std.specs.declared.option.Option.TheVariants.{None, Some}
 use Rattle.std.specs.List.{fold, AllByRecursion}
@@ -17,7 +17,7 @@ use Rattle.zr_msg.specs.declared.msg.Msg.{Msg}
 use Rattle.zr_lists.specs.Ascending.{at_key, has_key, put, without}
 use Rattle.zr_lists.proofs.Places.{none_same}
 use Rattle.zr_lists.proofs.Puts.{at-put, at-without, has_at}
-use Rattle.zr_lists.proofs.Order.{nat_order}
+use Rattle.zr_lists.proofs.Order.{is_itself, nat_order}
 use Rattle.zr_local.specs.Clients.{AreByLink, client_link, interests_on, with_interests}
 use Rattle.zr_local.specs.Interests.{interest_id}
 use Rattle.zr_local.specs.declared.interest.ClientInterests.{ClientInterests}
@@ -48,7 +48,7 @@ nothing_without = nothing_told
 
 -- ---- what is said on each link
 
-sent_there : (link to : LinkNo) (ms : List Msg) → on_link to (sent_on link ms) ≡ cond (link.0 == to.0) ms []
+pub sent_there : (link to : LinkNo) (ms : List Msg) → on_link to (sent_on link ms) ≡ cond (link.0 == to.0) ms []
 sent_there link to [] = by (link.0 == to.0)
   where
     none : List Msg
@@ -100,19 +100,16 @@ tells_each t cs maps s h to = each t cs maps to s ∙ by (at_key nat_cmp client_
 
 -- ---- an interest is noted
 
-itself : (n : ℕ) → is_eq (nat_cmp n n) ≡ true
-itself n = grind arith
-
 found_with : (cs : List ClientInterests) (link : LinkNo) (is : List Interest) → interests_on (with_interests cs link is) link.0 ≡ is
 found_with cs link is =
     ap (λ o. option_map_or (λ c. c.interests) o []) (at-put nat_cmp client_link nat_order cs (record { link = link; interests = is }) link.0)
-    ∙ ap (λ b. option_map_or (λ c. c.interests) (cond b (Some (record { link = link; interests = is })) (at_key nat_cmp client_link cs link.0)) []) (itself link.0)
+    ∙ ap (λ b. option_map_or (λ c. c.interests) (cond b (Some (record { link = link; interests = is })) (at_key nat_cmp client_link cs link.0)) []) (is_itself nat_cmp nat_order link.0)
 
 pub noted_is_live : NotedIsLive
 noted_is_live cs link true i =
     ap (λ is. at_key nat_cmp interest_id is i.id) (found_with cs link (put nat_cmp interest_id (interests_on cs link.0) i))
     ∙ at-put nat_cmp interest_id nat_order (interests_on cs link.0) i i.id
-    ∙ ap (λ b. cond b (Some i) (at_key nat_cmp interest_id (interests_on cs link.0) i.id)) (itself i.id)
+    ∙ ap (λ b. cond b (Some i) (at_key nat_cmp interest_id (interests_on cs link.0) i.id)) (is_itself nat_cmp nat_order i.id)
 noted_is_live cs link false i = by (has_key nat_cmp client_link cs link.0) (has_at nat_cmp client_link nat_order cs link.0)
   where
     rest : List Interest
@@ -126,7 +123,7 @@ noted_is_live cs link false i = by (has_key nat_cmp client_link cs link.0) (has_
     by true e =
         ap (λ is. at_key nat_cmp interest_id is i.id) (found_with cs link rest)
         ∙ at-without nat_cmp interest_id nat_order (interests_on cs link.0) i.id i.id
-        ∙ ap (λ b. cond b None (at_key nat_cmp interest_id (interests_on cs link.0) i.id)) (itself i.id)
+        ∙ ap (λ b. cond b None (at_key nat_cmp interest_id (interests_on cs link.0) i.id)) (is_itself nat_cmp nat_order i.id)
     by false e = none_there (at_key nat_cmp client_link cs link.0) e
 
 -- ---- a router with its clients
@@ -135,15 +132,15 @@ with_keeps : (t : TableState) (m : ToldMap) (k : ℕ) (o : Option Asking) (u : H
 with_keeps t m k None u a = changes_keep (others t k) (interests_on t.clients k) m u a
 with_keeps t m k (Some x) u a = interests_keep x.current x.future (others t k) (interests_on t.clients k) x.interest m u a
 
-with_wanted : (t : TableState) (m : ToldMap) (k : ℕ) (o : Option Asking) → IsAsWanted (others t k) (interests_on t.clients k) (told_with t m k o)
+pub with_wanted : (t : TableState) (m : ToldMap) (k : ℕ) (o : Option Asking) → IsAsWanted (others t k) (interests_on t.clients k) (told_with t m k o)
 with_wanted t m k None = as_wanted (λ p. false) (others t k) (interests_on t.clients k) m
 with_wanted t m k (Some x) = as_wanted (is_again x.future (others t k) x.interest) (others t k) (interests_on t.clients k) m
 
 -- what is kept by link is found by the number of the link
-abbrev entries : List LinkPeer → (ℕ → ToldMap) → Maps
+abbrev pub entries : List LinkPeer → (ℕ → ToldMap) → Maps
 entries ls f = map (λ l. (l.link.0, f l.link.0)) ls
 
-abbrev to_client : LinkPeer → Bool
+abbrev pub to_client : LinkPeer → Bool
 to_client l = not (is_router l.peer.role)
 
 on_client : (links : List LinkPeer) (f : ℕ → ToldMap) (k : ℕ) → leads_to_client links k ≡ true → map_on (by_link links f) k ≡ f k

@@ -3,10 +3,11 @@ use Rattle.std.proofs.Common.{◌≡◌, ℕ, ◌&&◌, ◌||◌, not, Bool, tru
 use Rattle.std.specs.List.{list_all, AllByRecursion}
 use Rattle.std.proofs.lemmas.Bool.{false≢true, eq-eqb, and_parts}
 use Rattle.std.proofs.Math.Bool.{or-true}
-use Rattle.zr_key.specs.Expression.{Piece, Char, AnyChars, Chunk, Any, AnyChunks, Pieces, is_any_chars, is_piece, is_wild, begins_verbatim, is_chunk, is_expression}
+use Rattle.zr_key.specs.Expression.{Piece, Char, AnyChars, Chunk, Any, AnyChunks, Pieces, is_any_chars, is_piece, is_wild, begins_verbatim, is_chunk}
 use Rattle.zr_key.specs.Key.{expression_of, IsKeyText}
 use Rattle.zr_match.specs.Table.{Signs, table, same_char, piece_signs, pieces_compare, is_any_chunks, chunks_go_together, chunk_signs, texts_meet}
 use Rattle.zr_match.proofs.PieceTable.{list_all-reverse}
+use Rattle.zr_match.proofs.Right.{all_chunks}
 
 -- a gap more of the second pattern changes nothing where gaps expand
 gap_more : {X : Type 0} (s : Signs X) (y : X) → s.expands ≡ true → s.is_gap y ≡ true → s.is_open y ≡ true → (a b : List X) → table s a b ≡ true → table s a (y ∷ b) ≡ true
@@ -62,10 +63,6 @@ open_gap : (x : Chunk) → is_any_chunks x ≡ true → (chunk_signs true).is_op
 open_gap Any h = refl
 open_gap AnyChunks h = refl
 open_gap (Pieces p) h = absurd (false≢true h)
-
-all_chunks : (e : List Chunk) → is_expression e ≡ true → list_all is_chunk e ≡ true
-all_chunks [] h = refl
-all_chunks (x ∷ e) h = h
 
 pub meets_itself : (k : List ℕ) → IsKeyText k → texts_meet k k ≡ true
 unfolding texts_meet

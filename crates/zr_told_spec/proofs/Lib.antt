@@ -10,3 +10,4 @@ pub mod Own
 pub mod Unheard
 pub mod Hubs
 pub mod Few
+pub mod Calm

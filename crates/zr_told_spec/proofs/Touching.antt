@@ -140,3 +140,9 @@ module _ (qs : List Place) (xs ys : List Decl) (meet : AllByRecursion (λ q. IsK
 
 pub changes_touch : ChangesTouch
 changes_touch qs before ds is m meet h w = λ p n. w p ∙ want_same qs before ds meet h is p n
+
+-- ---- who has no interests
+
+pub none_touch : (qs : List Place) (p : Place) → list_any (λ q. touches [] q p) qs ≡ false
+none_touch [] p = refl
+none_touch (q ∷ qs) p = none_touch qs p

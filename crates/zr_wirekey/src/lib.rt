@@ -12,4 +12,4 @@ pub use laws::{keys_are_read, keys_have_one_reading, names_are_heard, written_ke
 pub use names::{MOST_NAMES, Names};
 pub use reading::{read_key, read_parts};
 pub use scopes::{ScopeError, Scopes};
-pub use writing::{write_key, write_name};
+pub use writing::{D_KEYEXPR, DECLARE, write_key, write_name};

@@ -9,10 +9,10 @@ use zr_bytes::{all_or_nothing, put_bytes, put_zint};
 use zr_format_spec::header::header_byte;
 use zr_key::key::KeyExpr;
 
-/// The header of a DECLARE.
-const DECLARE: u8 = 0x1E;
-/// The header of a D_KEYEXPR.
-const D_KEYEXPR: u8 = 0x00;
+/// The id of a DECLARE, in its header (Zenoh protocol 1.0, "DECLARE").
+pub const DECLARE: u8 = 0x1E;
+/// The id of a D_KEYEXPR, in its header (Zenoh protocol 1.0, "D_KEYEXPR").
+pub const D_KEYEXPR: u8 = 0x00;
 /// The scope that is the empty text.
 const NO_SCOPE: u64 = 0;
 

@@ -14,11 +14,12 @@ use Rattle.zr_node_spec.specs.Tables.{link_at, link_to, free_link}
 use Rattle.zr_node_spec.specs.State.{NodeState, new_link}
 use Rattle.zr_msg.specs.declared.peer.LinkPeer.{LinkPeer}
 use Rattle.zr_node_spec.specs.Table.{after}
+use Rattle.zr_node_spec.proofs.FreeLink.{free_is_free}
 use Rattle.zr_world_spec.specs.World.{EndState, RouterState, WorldState, router_of, client_of, is_taken, end_of, is_up}
 use Rattle.zr_world_spec.specs.Sound.{AreUnique, IsSound}
 use Rattle.zr_world_spec.proofs.Fits.{up_is_there}
 use Rattle.zr_world_spec.proofs.Names.{names, same_name}
-use Rattle.zr_world_spec.proofs.Links.{free_is_free, numbered_link, unique_with, unique_without}
+use Rattle.zr_world_spec.proofs.Links.{numbered_link, unique_with, unique_without}
 use Rattle.zr_world_spec.proofs.Nodes.{peers_from}
 
 -- ---- links stay unique

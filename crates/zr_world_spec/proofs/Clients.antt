@@ -10,8 +10,10 @@ use Rattle.zr_lists.proofs.Options.{there_changed}
 use Rattle.zr_id.specs.Zid.{is_named}
 use Rattle.zr_msg.specs.declared.msg.Msg.{Msg}
 use Rattle.zr_msg.specs.declared.msg.Msg.TheVariants.{Sub, Unsub, Token, Untoken, Able, Unable, Interest, EndInterest, ToldSub, ToldAble, ToldUnsub, ToldToken, ToldUntoken, ToldUnable, ToldEnd, Push, Request, Response, Final, State, Step, Snap}
+use Rattle.zr_msg.specs.declared.decl.Kind.{Kind}
+use Rattle.zr_msg.specs.declared.decl.Kind.TheVariants as k
 use Rattle.zr_world_spec.specs.World.{ClientState, Clients, client_of, with_client}
-use Rattle.zr_world_spec.specs.Acts.{receiving, received}
+use Rattle.zr_world_spec.specs.Acts.{receiving, received, with_ids}
 use Rattle.zr_world_spec.proofs.Names.{read_kept}
 
 -- a client without interests, queries and requests: its router and what it has declared
@@ -84,3 +86,10 @@ module _ (clients more : Clients) (same : SameClients clients more) where
       by : (o : Option ClientState) → client_of clients q ≡ o → option_map idle_client o ≡ Some (idle_client t) → (s : ClientState) × (client_of clients q ≡ Some s) × (idle_client s ≡ idle_client t)
       by None e h = absurd (false≢true (ap is_some h))
       by (Some s) e h = (s, e, cc)
+
+-- whatever a client has declared, it stays at its router
+pub same_home : (s : ClientState) (kind : Kind) (ids : List ℕ) → (with_ids s kind ids).router ≡ s.router
+same_home s k.Sub ids = refl
+same_home s k.Able ids = refl
+same_home s k.Full ids = refl
+same_home s k.Token ids = refl

@@ -18,12 +18,13 @@ use Rattle.zr_node_spec.specs.Tables.{is_router, link_at, link_to, free_link}
 use Rattle.zr_node_spec.specs.State.{NodeState, new_link}
 use Rattle.zr_msg.specs.declared.peer.LinkPeer.{LinkPeer}
 use Rattle.zr_node_spec.specs.Table.{with_link, without_link, after}
+use Rattle.zr_node_spec.proofs.FreeLink.{free_is_free}
 use Rattle.zr_world_spec.specs.World.{ClientState, RouterState, EndState, End, Routers, Clients, Ends, WorldState, end_cmp, is_end, router_of, client_of, end_of, is_up, with_router, with_end, put_end, changed, empty_world}
 use Rattle.zr_world_spec.specs.Acts.{waiting, sends_to, all_queued, told_to, all_told}
 use Rattle.zr_world_spec.specs.Sound.{AreUnique, IsSound}
 use Rattle.zr_world_spec.proofs.Ends.{same_end, end_parts, keys_with_end, keep_with_end, keys_changed, keep_changed, keys_waiting, keep_waiting, read_put_end, sorted_put_end}
 use Rattle.zr_world_spec.proofs.Names.{names, same_name, value_after, read_kept}
-use Rattle.zr_world_spec.proofs.Links.{free_is_free, unique_with, unique_without}
+use Rattle.zr_world_spec.proofs.Links.{unique_with, unique_without}
 use Rattle.zr_world_spec.proofs.Nodes.{me_after, peer, peer_to, peers_from, peers_up, peers_down}
 
 -- ---- readings

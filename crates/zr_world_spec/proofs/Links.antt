@@ -1,20 +1,15 @@
--- The links of a router, each of which is the one of its number and the one to its neighbour: no link has the number that is free
--- (`free_is_free`), and what a link's number or neighbour finds after a link has come up (`link_to_with`), has gone down
--- (`link_to_without`), and after a client has declared something (`link_to_map`).
-use Rattle.std.proofs.Common.{◌≡◌, ℕ, ◌+◌, ◌<◌, ◌≤◌, Bool, true, false, cond, not, ◌||◌, ◌≢◌, List, [], ◌∷◌, length, map, Option, Some, None, refl, sym, ap, ◌∙◌, ◌⊎◌, inl, inr, arith}
-use Rattle.std.specs.Prelude.{◌==◌, nat_lt, is_some, unwrap_or}
-use Rattle.std.specs.List.{filter, find, list_any, range_with_len}
-use Rattle.std.proofs.lemmas.Bool.{false≢true, eqb-true, eq-eqb, lt-ltb, not-true, not-false, or_right, cases_eq, cases_lt}
-use lib.Dec.{eqb}
-use Rattle.std.proofs.lemmas.List.{length-map}
-use Rattle.std.proofs.lemmas.Map.Steps.{le-length_from_below}
-use Rattle.zr_lists.proofs.Numbers.{range_fails}
+-- The links of a router, each of which is the one of its number and the one to its neighbour: what a link's number or neighbour finds
+-- after a link has come up (`link_to_with`), has gone down (`link_to_without`), and after a client has declared something (`link_to_map`).
+use Rattle.std.proofs.Common.{◌≡◌, ℕ, ◌<◌, ◌≤◌, Bool, true, false, cond, not, ◌≢◌, List, [], ◌∷◌, Option, Some, None, refl, sym, ap, ◌∙◌, ◌⊎◌, inl, inr, arith}
+use Rattle.std.specs.Prelude.{nat_lt, is_some}
+use Rattle.std.specs.List.{filter, find}
+use Rattle.std.proofs.lemmas.Bool.{false≢true, eqb-true, eq-eqb, lt-ltb, cases_eq, cases_lt}
 use Rattle.zr_lists.proofs.Elements.{in_front, in_behind, in_either, each_in, in_each}
 use Rattle.zr_id.specs.Zid.{is_named}
-use Rattle.zr_node_spec.specs.Tables.{is_link, link_at, link_to, free_link}
+use Rattle.zr_node_spec.specs.Tables.{is_link, link_at, link_to}
 use Rattle.zr_msg.specs.declared.peer.LinkPeer.{LinkPeer}
 use Rattle.zr_node_spec.specs.Table.{with_link, without_link}
-use Rattle.zr_lists.proofs.Finds.{In, find_in, in_find, none_find, only_find, in_filter, filter_in, any_none}
+use Rattle.zr_lists.proofs.Finds.{In, find_in, in_find, none_find, only_find, in_filter, filter_in}
 use Rattle.zr_world_spec.specs.Sound.{AreUnique}
 use Rattle.zr_world_spec.proofs.Names.{names, same_name}
 
@@ -90,37 +85,6 @@ named_link links name l h = same_name l.peer.id name (find_in (has_name name) li
 
 pub numbered_link : (links : List LinkPeer) → AreUnique links → (name : List ℕ) (l : LinkPeer) → link_to links name ≡ Some l → link_at links l.link.0 ≡ Some l
 numbered_link links h name l found = each_in _ links l h.numbers (find_in (has_name name) links l found).0
-
--- ---- a free number
-
-has_number : (links : List LinkPeer) (q : ℕ) → list_any (λ l. is_link q l) links ≡ true → list_any (eqb q) (map (λ l. l.link.0) links) ≡ true
-has_number [] q h = h
-has_number (l ∷ ls) q h = by (l.link.0 == q) refl h (has_number ls q)
-  where
-    rest : Bool
-    rest = list_any (eqb q) (map (λ k. k.link.0) ls)
-
-    by : (b : Bool) → (l.link.0 == q) ≡ b → (b || list_any (λ k. is_link q k) ls) ≡ true → (list_any (λ k. is_link q k) ls ≡ true → rest ≡ true) → (eqb q l.link.0 || rest) ≡ true
-    by true e k ih = ap (λ b. b || rest) (eq-eqb q l.link.0 (sym (eqb-true l.link.0 q e)))
-    by false e k ih = or_right (eqb q l.link.0) rest (ih k)
-
--- no link has the number that is free
-pub free_is_free : (links : List LinkPeer) → link_at links (free_link links) ≡ None
-free_is_free links = by (find is_free (range_with_len 0 (length links + 1))) refl
-  where
-    is_free : ℕ → Bool
-    is_free n = not (list_any (λ l. is_link n l) links)
-
-    none : (n : ℕ) → is_free n ≡ true → link_at links n ≡ None
-    none n h = none_find (is_link n) links (λ l i. any_none (is_link n) links l (not-true (list_any (λ l. is_link n l) links) h) i)
-
-    by : (o : Option ℕ) → find is_free (range_with_len 0 (length links + 1)) ≡ o → link_at links (unwrap_or o 0) ≡ None
-    by (Some n) h = none n (find_in is_free (range_with_len 0 (length links + 1)) n h).1
-    by None h =
-        let all : length links + 1 ≤ length (map (λ l. l.link.0) links) =
-        le-length_from_below (map (λ l. l.link.0) links) (length links + 1)
-        (λ q lt. has_number links q (not-false (list_any (λ l. is_link q l) links) (range_fails is_free 0 (length links + 1) h q (omega arith) (omega arith)))) in
-        absurd (omega (arith, length-map links (λ (l : LinkPeer). l.link.0)))
 
 -- ---- a link more
 

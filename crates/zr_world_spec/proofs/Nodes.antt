@@ -1,52 +1,23 @@
 -- What an event makes of a router's links and of its own name: to whom it has links before and after (`peer_to`), where the event may come.
-use Rattle.std.proofs.Common.{◌≡◌, ℕ, Bool, true, false, cond, List, Option, Some, None, refl, ap, ◌∙◌}
+use Rattle.std.proofs.Common.{◌≡◌, ℕ, cond, List, Option, Some, None, refl, ap, ◌∙◌}
 use Rattle.std.specs.Option.{option_map}
 use Rattle.zr_lists.proofs.Options.{read_cond}
-use Rattle.zr_id.specs.Record.{RecordState}
 use Rattle.zr_id.specs.Zid.{is_named}
 use Rattle.zr_id.specs.declared.link.LinkNo.{LinkNo}
-use Rattle.zr_graph.specs.Base.{BaseState, is_newer, kept as with_record, after_record}
 use Rattle.zr_msg.specs.declared.msg.Msg.{Msg}
 use Rattle.zr_msg.specs.declared.msg.Msg.TheVariants.{Sub, Unsub, Token, Untoken, Able, Unable, Interest, EndInterest, ToldSub, ToldAble, ToldUnsub, ToldToken, ToldUntoken, ToldUnable, ToldEnd, Push, Request, Response, Final, State, Step, Snap}
 use Rattle.zr_msg.specs.declared.event.Event.{Event}
 use Rattle.zr_msg.specs.declared.event.Event.TheVariants.{Up, Down, From}
 use Rattle.zr_msg.specs.Peer.{PeerState}
-use Rattle.zr_msg.specs.declared.peer.Role.{Role}
-use Rattle.zr_msg.specs.declared.peer.Role.TheVariants.{Client, Router}
-use Rattle.zr_node_spec.specs.Tables.{link_at, link_to, leads_to_router}
+use Rattle.zr_node_spec.specs.Tables.{link_at, link_to}
 use Rattle.zr_node_spec.specs.State.{NodeState, new_link}
 use Rattle.zr_msg.specs.declared.peer.LinkPeer.{LinkPeer}
-use Rattle.zr_node_spec.specs.Table.{with_link, without_link, after, after_from, base_up, base_down, base_parted, base_told}
+use Rattle.zr_node_spec.specs.Table.{with_link, without_link, after, after_from}
+use Rattle.zr_node_spec.proofs.OwnName.{me_up, me_down, me_told}
 use Rattle.zr_world_spec.specs.Sound.{AreUnique}
 use Rattle.zr_world_spec.proofs.Links.{link_to_with, link_to_apart}
 
 -- ---- the own name
-
-me_up : (b : BaseState) (peer : PeerState) (role : Role) → (base_up b peer role).me ≡ b.me
-me_up b peer Client = refl
-me_up b peer Router = refl
-
-me_parted : (b : BaseState) (peer : PeerState) (role : Role) → (base_parted b peer role).me ≡ b.me
-me_parted b peer Client = refl
-me_parted b peer Router = refl
-
-me_down : (b : BaseState) (o : Option LinkPeer) → (base_down b o).me ≡ b.me
-me_down b None = refl
-me_down b (Some l) = me_parted b l.peer l.peer.role
-
-me_record : (b : BaseState) (r : RecordState) → (after_record b r).me ≡ b.me
-me_record b r = by (is_newer b r)
-  where
-    by : (t : Bool) → (cond t (with_record b r) b).me ≡ b.me
-    by true = refl
-    by false = refl
-
-me_told : (node : NodeState) (from : ℕ) (r : RecordState) → (base_told node from r).me ≡ node.base.me
-me_told node from r = by (leads_to_router node.links from)
-  where
-    by : (t : Bool) → (cond t (after_record node.base r) node.base).me ≡ node.base.me
-    by true = me_record node.base r
-    by false = refl
 
 me_from : (node : NodeState) (from : ℕ) (msg : Msg) → (after_from node from msg).base.me ≡ node.base.me
 me_from node from (Sub id key) = refl

@@ -37,20 +37,21 @@ use Rattle.zr_script_spec.specs.declared.report.ReportLine.TheVariants.{Ran, Han
 use Rattle.zr_node_spec.specs.Tables.{is_router, link_at, link_to}
 use Rattle.zr_node_spec.specs.Table.{able_kind, after}
 use Rattle.zr_node_spec.specs.Event.{MayCome}
+use Rattle.zr_node_spec.proofs.FreeLink.{free_is_free}
 use Rattle.zr_script_spec.specs.Step.{◌>>=◌}
 use Rattle.zr_world_spec.specs.World.{Tagged, ClientState, RouterState, EndState, End, Routers, Clients, Ends, WorldState, end_cmp, is_end, router_of, client_of, is_taken, end_of, is_up, is_unbroken, is_in_place, with_routers, with_clients, with_ends, with_router, with_client, with_end, put_end, new_end, new_router, new_client, lifted, changed, broken, lowered, sent, with_wire, with_queue, is_empty, most_steps, is_settled}
 use Rattle.zr_world_spec.specs.Fan.{are_samples, are_many, are_long, fanned}
-use Rattle.zr_world_spec.specs.Acts.{Outcome, unless, router_at, end_at, oldest, number_at, handle_step, take_step, having_told, refuses_of, heard, weighing, ids_of, with_ids, declaring, undeclaring, received, hears, heard_by, all_queued, all_told, up_event, peer_of, number_to, outcome}
+use Rattle.zr_world_spec.specs.Acts.{Outcome, unless, router_at, end_at, oldest, number_at, handle_step, take_step, having_told, refuses_of, heard, weighing, ids_of, declaring, undeclaring, received, hears, heard_by, all_queued, all_told, up_event, peer_of, number_to, outcome}
 use Rattle.zr_world_spec.specs.Next.{Done, lesser, ends_where, first_where, can_handle, can_take, step_at, next, world_after, with_more, run_steps, all_done, booking, book_step, run_done, fan_steps, fan_done, fan_step, applied}
 use Rattle.zr_world_spec.specs.Moments.{Moment, went}
 use Rattle.zr_world_spec.specs.Sound.{IsSound, AllAreTaken}
 use Rattle.zr_lists.proofs.Finds.{In, in_map, in_filter}
 use Rattle.zr_lists.proofs.Options.{not_there, read_cond}
 use Rattle.zr_world_spec.proofs.Keyed.{there}
-use Rattle.zr_world_spec.proofs.Clients.{SameClients, read_same_clients, same_received}
+use Rattle.zr_world_spec.proofs.Clients.{SameClients, read_same_clients, same_received, same_home}
 use Rattle.zr_world_spec.proofs.Names.{names, same_name, value_new, read_kept}
 use Rattle.zr_world_spec.proofs.Ends.{end_found, end_parts, keys_with_end, keys_changed, read_with_end, keep_with_end, read_put_end, keep_put_end, sorted_put_end, read_changed, keep_changed}
-use Rattle.zr_world_spec.proofs.Links.{numbered_link, free_is_free, unique_nothing}
+use Rattle.zr_world_spec.proofs.Links.{numbered_link, unique_nothing}
 use Rattle.zr_world_spec.proofs.Cases.{w_client, w_link, w_up, w_break, w_down, w_sent, w_declare, w_undeclare, w_weighed, w_handle, w_take, free_name, number_found, oldest_found, for_router, for_client, for_link, for_up, for_break, for_down, for_declare, for_undeclare, Says, Weighs, interest_says, uninterest_says, publish_says, get_says, reply_says, end_says, for_handle, for_take, for_mark, for_show}
 use Rattle.zr_world_spec.proofs.Fits.{up_of, home, up_is_there, Places, places_same, still_true, of_put, places_put, Fits, Nodes, fits_same, nodes_set, fits_up, fits_down, fits_from, SameEnds, same_then, same_with, same_changed, same_heard, own_end, other_end, places_of, nodes_of, sound_of}
 use Rattle.zr_world_spec.proofs.Telling.{heard_is}
@@ -96,12 +97,6 @@ module _ (w : WorldState) (line : ℕ) (h : IsSound w) where
   on_wire name s e msg found = same_with w.ends (s.router, name) e (sent e msg line) found refl
 
   -- ---- what waits at ends
-
-  same_home : (s : ClientState) (kind : Kind) (ids : List ℕ) → (with_ids s kind ids).router ≡ s.router
-  same_home s k.Sub ids = refl
-  same_home s k.Able ids = refl
-  same_home s k.Full ids = refl
-  same_home s k.Token ids = refl
 
   declare_sound : (name : List ℕ) (kind : Kind) (id : ℕ) (key : List ℕ) (msg : Msg) (s : ClientState) → client_of w.clients name ≡ Some s → (e : EndState) → end_of w.ends (s.router, name) ≡ Some e →
       (r : RouterState) → router_of w.routers s.router ≡ Some r → IsSound (w_declare w line name kind id key msg s e r)
@@ -433,7 +428,7 @@ book_keeps w steps h = by (nat_le (w.booked + steps) most_steps)
     by false = tt
 
 -- what was said first, and then the rest
-abbrev said_first : List ReportLine → List ReportLine × WorldState → Done
+abbrev pub said_first : List ReportLine → List ReportLine × WorldState → Done
 said_first said y = Ok (said ++ y.0, y.1)
 
 acts_keep : (line : ℕ) (several : List Act) (w : WorldState) → IsSound w → IfOk (all_done w line several) (λ x. IsSound x.1)

@@ -7,13 +7,14 @@ use Rattle.std.specs.Map.{keys_of}
 use Rattle.std.proofs.lemmas.Bool.{not-true}
 use Rattle.std.proofs.lemmas.Result.{on_ok_weaker}
 use Rattle.std.proofs.lemmas.Map.Keys.{IsDistinct-from_sorted}
+use Rattle.std.proofs.Math.Bool.{or-false, or_assoc}
 use Rattle.zr_lists.specs.Cut.{parts}
 use Rattle.zr_key.specs.Key.{chunk_of}
 use Rattle.zr_match.proofs.ChunkSteps.{room_at, room_more}
 use Rattle.zr_index.specs.declared.node.Node.TheViews.{out-Node}
 use Rattle.zr_index.specs.Pairs.{pairs}
 use Rattle.zr_index.specs.Walk.{is_met, finds, finds_plain, finds_wild, finds_in, finds_sought}
-use Rattle.zr_index.proofs.Found.{none_found, last_mark, finds_level, or_false, or_assoc}
+use Rattle.zr_index.proofs.Found.{none_found, last_mark, finds_level}
 use Rattle.zr_index.proofs.Sought.{sought_is_plain, total_by}
 use Rattle.zr_index.proofs.node.Node.+gathering.Goals.{gather-then-meets+in_ok-put_all, gather-else-meets, gather-then-seeks_plain+in_ok-gather_sought, gather-else-seeks_plain+in_ok-gather_plain, gather_sought-then-is_marked+in_ok-gather_at, gather_sought-else-is_marked}
 use Rattle.zr_index.proofs.node.Node.+gathering.Goals as goal
@@ -26,7 +27,7 @@ or_join false false p w = refl
 pub gather-returns-then-is_blank : goal.gather-returns-then-is_blank
 gather-returns-then-is_blank g t c above row v =
     let none = none_found g.V.Ord.cmp above c.args.row.now.marks.items c.args.key.now row (not-true (list_any (λ m. m) c.args.row.now.marks.items) (sym c.if-is_blank.ensures)) (pairs c.args.self.now) v in
-    sym (ap (λ b. contains g.V.Ord.cmp c.args.out.now v || b) none ∙ or_false (contains g.V.Ord.cmp c.args.out.now v))
+    sym (ap (λ b. contains g.V.Ord.cmp c.args.out.now v || b) none ∙ or-false (contains g.V.Ord.cmp c.args.out.now v))
 
 pub gather-returns : goal.gather-returns
 gather-returns g t c = on_ok_weaker c.gather_wild.result (λ last above row v.
@@ -48,7 +49,7 @@ gather-returns g t c = on_ok_weaker c.gather_wild.result (λ last above row v.
           let out-is = w.out-is in
           let met : m ≡ false = mark ∙ sym w.if-meets.ensures in
           let both : (m && h) ≡ false = ap (λ b. b && h) met in
-          let none : (o || false) ≡ o = or_false o in
+          let none : (o || false) ≡ o = or-false o in
           cc
     ] in
     let p : Bool = finds_plain cmp above key c.args.self.now v in
@@ -99,7 +100,7 @@ gather_sought-loop-rest-preserved g t c =
                 let out-is = w.out-is in
                 let marked : m ≡ false = sym w.if-is_marked.ensures in
                 let both : (m && f) ≡ false = ap (λ b. b && f) marked in
-                let none : (o || false) ≡ o = or_false o in
+                let none : (o || false) ≡ o = or-false o in
                 cc
           ] in
           let s : Bool = finds_sought (λ k. k.items) cmp above key es marks (at + 1) (parts 47 (option_copied c.cut.result.1)) v in
@@ -115,6 +116,6 @@ gather_sought-returns g t c above row v =
     let marks = c.args.row.now.marks.items in
     let o : Bool = contains cmp c.loop-rest.out v in
     let distinct = IsDistinct-from_sorted _ (keys_of es) c.len-ascends.ensures.ordered in
-    sym (or_false o) ∙ ap (λ r. o || finds_sought (λ k. k.items) cmp above key es marks c.loop-rest.at (parts 47 (option_copied r)) v) (sym c.in_default.is)
+    sym (or-false o) ∙ ap (λ r. o || finds_sought (λ k. k.items) cmp above key es marks c.loop-rest.at (parts 47 (option_copied r)) v) (sym c.in_default.is)
     ∙ c.loop-rest.invariant.is above row v
     ∙ ap (λ z. contains cmp c.args.out.now v || z) (sought_is_plain (λ k. k.items) cmp above key es marks v distinct (total_by (λ k. k.items)) row c.requires.sought)

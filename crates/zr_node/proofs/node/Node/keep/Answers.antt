@@ -1,7 +1,8 @@
 use Rattle.std.proofs.Common.{ap, ◌∙◌}
 use Rattle.zr_graph.specs.Base.{BaseState}
 use Rattle.zr_node_spec.specs.Tables.{TableState}
-use Rattle.zr_node.proofs.Remembering.{me_record, whole_anew}
+use Rattle.zr_node_spec.proofs.OwnName.{me_record}
+use Rattle.zr_node.proofs.Remembering.{whole_anew}
 use Rattle.zr_node.proofs.node.Node.keep.Goals as goal
 
 pub invariant_of-self-in-Newer : goal.invariant_of-self-in-Newer
