@@ -24,7 +24,8 @@ impl<R: std::time::Clock + Drop> SystemClock<R> {
         SystemClock { rt, start, last: 0 }
     }
 
-    fn elapsed(&self) -> u64 {
+    /// Milliseconds since it was made. Where the system tells no time it is 0.
+    pub(crate) fn elapsed(&self) -> u64 {
         let Some(start) = self.start else {
             return 0;
         };

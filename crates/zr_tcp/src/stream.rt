@@ -7,7 +7,7 @@ use crate::grace::Grace;
 use crate::place::Place;
 use crate::reason::Reason;
 use crate::refusals::{Refusals, refuses_twice};
-use std::io::{ErrorKind, Read, Write};
+use std::io::{self, ErrorKind, Read, Write};
 use std::net::{Shutdown, SocketAddr, TcpStream};
 use std::sync::{Arc, Wait};
 use std::time::{Clock, Duration};
@@ -21,10 +21,14 @@ const QUIET_MS: u64 = 100;
 const OPEN_QUIET_MS: u64 = 1_000;
 
 /// How long a write waits for a peer that reads nothing before it fails: the lease that this router tells.
-const MOST_WRITE_S: u64 = 10;
+const MOST_WRITE_MS: u64 = 10_000;
 
-/// How often a write that a signal broke off is tried.
-const MOST_TRIES: u32 = 16;
+/// How long each try of a write waits for room. Linux wakes a write that waits only once a third of the stream's send buffer is free. Over a fast network
+/// that is a megabyte and more, so seconds if the peer reads slowly. A new try takes what room there is.
+const TRY_MS: u64 = 20;
+
+/// How often a write is tried at most, whatever the clock tells.
+const MOST_TRIES: u32 = 500;
 
 /// How many writes a session takes to open: one for each answer to its peer. A peer that sends less than both messages is written less.
 const WRITES_TO_OPEN: u32 = 2;
@@ -60,7 +64,7 @@ pub(crate) fn ends_of<R: Clock + Copy + Drop>(
 ) -> Result<(TcpSource, TcpSink<R>), Reason> {
     stream.set_nodelay(true)?;
     stream.set_read_timeout(Some(Duration::from_millis(QUIET_MS)))?;
-    stream.set_write_timeout(Some(Duration::from_secs(MOST_WRITE_S)))?;
+    stream.set_write_timeout(Some(Duration::from_millis(TRY_MS)))?;
     let other = stream.try_clone()?;
     let read = Arc::try_clone(place)?;
     let written = Arc::try_clone(place)?;
@@ -211,7 +215,8 @@ impl<R: Wait + Clock + Copy + Drop> Sink for TcpSink<R> {
     ghost faults = { λ s. s.faults };
 
     fn write(&mut self, from: &[u8]) -> Put {
-        match written(&mut self.stream, &mut self.grace, from) {
+        let began = SystemClock::new(self.rt);
+        match written(&mut self.stream, &mut self.grace, &began, from) {
             0 => {
                 self.faults = self.faults.saturating_add(1);
                 Put::Failed
@@ -226,14 +231,19 @@ impl<R: Wait + Clock + Copy + Drop> Sink for TcpSink<R> {
 }
 
 // How many bytes the stream took, and 0 where the write failed. In the grace period one that didn't take all has failed, having waited as long as a write may,
-// and so has each behind the period.
-fn written<R: Clock + Drop>(stream: &mut TcpStream, grace: &mut Grace<R>, from: &[u8]) -> usize
+// and so has each behind the period. The clock began with the write.
+fn written<R: Clock + Drop>(
+    stream: &mut TcpStream,
+    grace: &mut Grace<R>,
+    began: &SystemClock<R>,
+    from: &[u8],
+) -> usize
     ensures { result ≤ length from.now }
 {
     if grace.is_over() {
         return 0;
     }
-    let count = taken(stream, from);
+    let count = taken(stream, began, from);
     if count < from.len() && grace.is_due() {
         return 0;
     }
@@ -241,15 +251,27 @@ fn written<R: Clock + Drop>(stream: &mut TcpStream, grace: &mut Grace<R>, from: 
 }
 
 // How many bytes the stream took, and 0 where it took none.
-fn taken(stream: &mut TcpStream, from: &[u8]) -> usize
+fn taken<R: Clock + Drop>(stream: &mut TcpStream, began: &SystemClock<R>, from: &[u8]) -> usize
     ensures { result ≤ length from.now }
 {
+    let mut rest = from;
     for _ in 0..MOST_TRIES {
-        match stream.write(from) {
-            Ok(count) => return count,
-            Err(e) if e.kind() == ErrorKind::Interrupted => (),
-            Err(_) => return 0,
+        match stream.write(rest) {
+            Ok(count) => rest = rest.get(count..).unwrap_or(&[]),
+            Err(e) if may_try_again(&e) => (),
+            Err(_) => break,
+        }
+        if rest.is_empty() || began.elapsed() >= MOST_WRITE_MS {
+            break;
         }
     }
-    0
+    from.len().saturating_sub(rest.len())
+}
+
+// Whether a write that has failed so is tried again: it has waited, or a signal broke it off.
+fn may_try_again(e: &io::Error) -> bool {
+    match e.kind() {
+        ErrorKind::WouldBlock | ErrorKind::Interrupted => true,
+        _ => false,
+    }
 }
