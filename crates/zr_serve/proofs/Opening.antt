@@ -136,14 +136,6 @@ cause_by (Err x) f g why = (λ it. not_done x it why.0, λ it. not_host x it why
 
 -- ---- by what opening it answers
 
--- whatever was asked as it was taken down again
-any_call : (refuses_up : List Entry → PeerState → UpError → Type 0) (refuses_message : List Entry → LinkNo → Msg → DeliverError → Type 0) (refuses_down : List Entry → LinkNo → DownError → Type 0)
-    (called : Answering) (id : List ℕ) (word : ℕ) (e : AdminError) (a b : Sight) → IsUnopened refuses_up refuses_message refuses_down called id word e a b
-    → IsUnopened refuses_up refuses_message refuses_down (λ l reason was now answer. Unit {0}) id word e a b
-any_call refuses_up refuses_message refuses_down called id word (error.Up e) a b h = h
-any_call refuses_up refuses_message refuses_down called id word (error.Deliver e) a b h = (h.0, h.1, h.2, (h.3.0, h.3.1, h.3.2, (h.3.3.0, tt, h.3.3.2)))
-any_call refuses_up refuses_message refuses_down called id word error.NoMemory a b h = h
-
 module _ {V : Type 0} (up : V → List Entry → PeerState → UpError → Type 0) (message : V → List Entry → LinkNo → Msg → DeliverError → Type 0)
     (down : V → List Entry → LinkNo → DownError → Type 0) (id : List ℕ) (word : ℕ) (v w : V) (old h m : List Entry) (port : w ≡ v) (split : h ≡ old) (none : m ≡ []) where
   abbrev first : Sight
@@ -163,12 +155,11 @@ module _ {V : Type 0} (up : V → List Entry → PeerState → UpError → Type 
 
   pub refuses_space : (called : V → Answering) (e : AdminError) (new : Sight) → is_spent e ≡ false
       → IsUnopened (λ s p x. up w s p x) (λ s l x y. message w s l x y) (λ s l x. down w s l x) (called w) id word e (record { seen = h; mine = m }) new
-      → RefusesSpace (λ s p x. up v s p x) (λ s l x y. message v s l x y) (λ s l x. down v s l x) old id word
+      → RefusesSpace (λ s p x. up v s p x) (λ s l x y. message v s l x y) (λ s l x. down v s l x) (called v) old id word
   refuses_space called e new not_spent unopened = (
     e,
     new,
     not_spent,
-    any_call (λ s q x. up v s q x) (λ s l x y. message v s l x y) (λ s l x. down v s l x) (called v) id word e (record { seen = old; mine = [] }) new
-        (subst (λ p. IsUnopened (λ s q x. up p s q x) (λ s l x y. message p s l x y) (λ s l x. down p s l x) (called p) id word e (record { seen = old; mine = [] }) new) port
-        (subst (λ (s : Sight). IsUnopened (λ s q x. up w s q x) (λ s l x y. message w s l x y) (λ s l x. down w s l x) (called w) id word e s new) is_first unopened)),
+    subst (λ p. IsUnopened (λ s q x. up p s q x) (λ s l x y. message p s l x y) (λ s l x. down p s l x) (called p) id word e (record { seen = old; mine = [] }) new) port
+        (subst (λ (s : Sight). IsUnopened (λ s q x. up w s q x) (λ s l x y. message w s l x y) (λ s l x. down w s l x) (called w) id word e s new) is_first unopened),
   )

@@ -10,7 +10,7 @@ use Rattle.zr_link_job.specs.declared.job.ServeJob.TheVariants.{Inner}
 use Rattle.zr_msg.specs.Peer.{PeerState}
 use Rattle.zr_msg.specs.declared.msg.Msg.{Msg}
 use Rattle.zr_outside.specs.Told.{Appends}
-use Rattle.zr_port.specs.Coming.{Sight}
+use Rattle.zr_port.specs.Coming.{Answering, Sight}
 use Rattle.zr_port.specs.declared.entry.Entry.{Entry}
 use Rattle.zr_port.specs.declared.error.DeliverError.{DeliverError}
 use Rattle.zr_port.specs.declared.error.DeliverError.TheVariants as deliver
@@ -113,7 +113,7 @@ is_spent (error.Deliver deliver.Worn) = false
 is_spent (error.Deliver deliver.NoMemory) = true
 is_spent error.NoMemory = true
 
--- the router refused it, or what it declares, for another cause than memory
-abbrev pub RefusesSpace : (List Entry → PeerState → UpError → Type 0) → (List Entry → LinkNo → Msg → DeliverError → Type 0) → (List Entry → LinkNo → DownError → Type 0) → List Entry → List ℕ → ℕ → Type 0
-RefusesSpace refuses_up refuses_message refuses_down seen id word =
-    (e : AdminError) × (new : Sight) × (is_spent e ≡ false) × IsUnopened refuses_up refuses_message refuses_down (λ l reason was now answer. Unit {0}) id word e (record { seen = seen; mine = [] }) new
+-- the router refused it, or what it declares, for another cause than memory; where a link came up for it, that was taken down by a call
+abbrev pub RefusesSpace : (List Entry → PeerState → UpError → Type 0) → (List Entry → LinkNo → Msg → DeliverError → Type 0) → (List Entry → LinkNo → DownError → Type 0) → Answering → List Entry → List ℕ → ℕ → Type 0
+RefusesSpace refuses_up refuses_message refuses_down called seen id word =
+    (e : AdminError) × (new : Sight) × (is_spent e ≡ false) × IsUnopened refuses_up refuses_message refuses_down called id word e (record { seen = seen; mine = [] }) new

@@ -16,7 +16,7 @@ use Rattle.zr_serve.specs.Serving.{IsServed, Outputs}
 use Rattle.zr_serve.specs.Former.{Hears}
 use Rattle.zr_serve.specs.Space.{OpensSpace, RefusesSpace}
 use Rattle.zr_serve_router.specs.Former.{Heard}
-use Rattle.zr_serve_router.specs.Space.{Opened, Refused}
+use Rattle.zr_serve_router.specs.Space.{Opened, Refused, answers_any}
 
 module _ (end : ServeEnd) (id : List ℕ) (policy : PolicyState) (log admin : Bool) (address : List ℕ) (ds : List DialState) (left left' : Option (List Stream)) (calls calls' : Option (List Call))
     (told told' : Option (List ServeJob)) (faults faults' : ℕ) (o p : Outputs) where
@@ -24,14 +24,14 @@ module _ (end : ServeEnd) (id : List ℕ) (policy : PolicyState) (log admin : Bo
   abbrev at : List ℕ → PolicyState → List Entry → List Entry → Type 0
   at me named seen later = IsServed end id policy log admin
       (OpensSpace (λ h peer e. RefusesUp me h peer e) (λ h link msg e. RefusesMessage named me h link msg e) seen id)
-      (RefusesSpace (λ h peer e. RefusesUp me h peer e) (λ h link msg e. RefusesMessage named me h link msg e) (λ h link e. RefusesDown me h link e) seen id)
+      (RefusesSpace (λ h peer e. RefusesUp me h peer e) (λ h link msg e. RefusesMessage named me h link msg e) (λ h link e. RefusesDown me h link e) answers_any seen id)
       (λ b. Hears (λ h. (is_legal me h ≡ true) × AreAllowed named me h) (λ h. was_used me h) later b)
       address ds left left' calls calls' told told' faults faults' o p
 
   pub under_name : (me : List ℕ) (named : PolicyState) (seen later : List Entry) → id ≡ me → policy ≡ named → seen ≡ []
       → IsServed end id policy log admin
       (OpensSpace (λ h peer e. RefusesUp me h peer e) (λ h link msg e. RefusesMessage named me h link msg e) seen id)
-      (RefusesSpace (λ h peer e. RefusesUp me h peer e) (λ h link msg e. RefusesMessage named me h link msg e) (λ h link e. RefusesDown me h link e) seen id)
+      (RefusesSpace (λ h peer e. RefusesUp me h peer e) (λ h link msg e. RefusesMessage named me h link msg e) (λ h link e. RefusesDown me h link e) answers_any seen id)
       (λ b. Hears (λ h. (is_legal me h ≡ true) × AreAllowed named me h) (λ h. was_used me h) later b)
       address ds left left' calls calls' told told' faults faults' o p
       → IsServed end id policy log admin (Opened policy id) (Refused policy id) (Heard policy id) address ds left left' calls calls' told told' faults faults' o p

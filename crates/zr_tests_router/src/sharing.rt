@@ -7,20 +7,25 @@ use crate::desk::{Hand, Say};
 use std::alloc::{AllocError, Global};
 use std::marker::Brand;
 use std::sync::Wait;
+use std::sync::atomic::{AtomicBool, Ordering};
 use std::test::Fail;
+use std::thread;
 use std::thread::{Threads, join};
 use zr_access::Policy;
 use zr_hist::{History, Kept, Pass};
 use zr_id::zid::Zid;
 use zr_msg::peer::Role;
 use zr_msg::shared::Shared;
-use zr_port::{Entry, Naming};
+use zr_port::{DeliverError, Entry, Naming};
 use zr_ring::{Bytes, Taker, Took};
 use zr_router::Router;
 use zr_router_queue::Queued;
 
 /// How many samples each thread delivers.
 const SAMPLES: u32 = 120;
+
+/// How many parcels the ring of a client has room for.
+const SLOTS: u32 = 256;
 
 /// The links of the clients that publish, and of the one that subscribes.
 const ONE: u32 = 0;
@@ -123,20 +128,83 @@ fn publish_both<B: Naming + Send + Sync, R: Threads + Wait + Copy + Send + Sync 
     )
 }
 
-// The same, how many the subscriber got, and whether it gets a further one once the passes are joined.
+// Fills the subscriber's ring: so many samples, one for which there is no room, and one that may not be dropped, which closes its link; how many of
+// these were delivered, and whether its link is refused for the full ring then.
+fn fill<B: Naming, R: Wait + Drop>(
+    alloc: Global,
+    router: &Router<B, R>,
+    hand: &mut Hand<B>,
+    is_full: &AtomicBool,
+) -> (u32, u32) {
+    let mut count = 0u32;
+    for _ in 0..SLOTS + 1 {
+        if hand.deliver(alloc, router, ONE, Say::Sample).is_ok() {
+            count = count.saturating_add(1);
+        }
+    }
+    if hand.deliver(alloc, router, ONE, Say::Keep).is_ok() {
+        count = count.saturating_add(1);
+    }
+    let refused = hand.deliver(alloc, router, SUBSCRIBER, Say::Sample);
+    is_full.store(true, Ordering::SeqCst);
+    (count, u32::from(is_closed(refused)))
+}
+
+// Whether a link is refused since an event had one parcel for it, and its ring no room.
+fn is_closed(delivered: Result<(), DeliverError>) -> bool {
+    matches!(delivered, Err(DeliverError::Full { asked: 1, free: 0 }))
+}
+
+// Holds the taker and asks it for nothing until the ring is full; how many parcels it gives then, and whether the end with reason 0 comes behind them.
+fn hold<W: Wait>(rt: &W, taker: &mut Taker<Queued>, is_full: &AtomicBool) -> (u32, u32) {
+    for _ in rt.forever() {
+        if is_full.load(Ordering::SeqCst) {
+            break;
+        }
+        thread::yield_now();
+    }
+    for count in 0..SLOTS + 1 {
+        match taker.take() {
+            Took::Parcel(_) => {}
+            Took::Ended(reason) => return (count, u32::from(reason == Some(0))),
+            Took::Nothing => return (count, 0),
+        }
+    }
+    (SLOTS + 1, 0)
+}
+
+// One thread fills the ring, and another one holds the taker.
+fn fill_beside<B: Naming + Send + Sync, R: Threads + Wait + Copy + Send + Sync + Drop>(
+    rt: R,
+    alloc: Global,
+    router: &Router<B, R>,
+    hand: &mut Hand<B>,
+    taker: &mut Taker<Queued>,
+) -> [u32; 4] {
+    let is_full = AtomicBool::new(false);
+    let (filled, held) = join(
+        &rt,
+        || fill(alloc, router, hand, &is_full),
+        || hold(&rt, taker, &is_full),
+    );
+    [filled.0, filled.1, held.0, held.1]
+}
+
+// The same, how many the subscriber got, and whether it gets a further one once the passes are joined. Then its ring is filled.
 fn share_at<B: Naming + Send + Sync, R: Threads + Wait + Copy + Send + Sync + Drop>(
     rt: R,
     alloc: Global,
     router: &Router<B, R>,
     hand: &mut Hand<B>,
-) -> Result<[u32; 4], AllocError> {
+) -> Result<([u32; 4], [u32; 4]), AllocError> {
     let mut taker = clients(alloc, router, hand)?;
     let mut other = hand.split(router);
     let (first, second) = publish_both(rt, alloc, router, hand, &mut other);
     hand.join(router, other);
     let got = in_order(&mut taker);
     let further = hand.deliver(alloc, router, TWO, Say::Sample).is_ok() && is_next(&mut taker, got);
-    Ok([first, second, got, u32::from(further)])
+    let shared = [first, second, got, u32::from(further)];
+    Ok((shared, fill_beside(rt, alloc, router, hand, &mut taker)))
 }
 
 // The same at a router of this history.
@@ -148,7 +216,7 @@ fn share<B: Naming + Send + Sync, R: Threads + Wait + Copy + Send + Sync + Drop>
     history: History<Entry>,
     kept: Kept<Entry>,
     pass: Pass<Entry>,
-) -> Result<[u32; 4], AllocError>
+) -> Result<([u32; 4], [u32; 4]), AllocError>
     requires history { name history ≡ B.history }
     requires kept { (kept_name kept ≡ B.history) × (list_of kept ≡ []) }
     requires pass { pass_name pass ≡ B.history }
@@ -163,7 +231,7 @@ fn share<B: Naming + Send + Sync, R: Threads + Wait + Copy + Send + Sync + Drop>
 fn shared<R: Threads + Wait + Copy + Send + Sync + Drop>(
     rt: R,
     alloc: Global,
-) -> Result<[u32; 4], AllocError> {
+) -> Result<([u32; 4], [u32; 4]), AllocError> {
     let Ok(me) = Zid::from_bytes(&[OWN]) else {
         return Err(AllocError);
     };
@@ -174,6 +242,8 @@ fn shared<R: Threads + Wait + Copy + Send + Sync + Drop>(
 
 #[test]
 fn two_threads_share_a_router(rt: HostRuntime) -> Result<(), Fail> {
-    assert!(rt; shared(rt, rt.alloc())? == [SAMPLES, SAMPLES, 2 * SAMPLES, 1]);
+    let (shared, filled) = shared(rt, rt.alloc())?;
+    assert!(rt; shared == [SAMPLES, SAMPLES, 2 * SAMPLES, 1]);
+    assert!(rt; filled == [SLOTS + 2, 1, SLOTS, 1]);
     Ok(())
 }
