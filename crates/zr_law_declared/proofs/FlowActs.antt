@@ -15,11 +15,11 @@ use Rattle.zr_script_spec.specs.declared.command.Act.TheVariants as a
 use Rattle.zr_script_spec.specs.Mode.{is_current, is_future}
 use Rattle.zr_node_spec.specs.Table.{able_kind}
 use Rattle.zr_told_spec.specs.declared.place.Class.TheVariants.{Subscriber, Queryable, Living}
-use Rattle.zr_world_spec.specs.World.{ClientState, WorldState, with_routers, with_router, with_ends, with_end, with_queue, client_of, changed, sent}
-use Rattle.zr_world_spec.specs.Acts.{outcome, weighing, declaring, undeclaring, received}
+use Rattle.zr_world_spec.specs.World.{WorldState, with_routers, with_router, with_ends, with_end, with_queue, client_of, changed, sent}
+use Rattle.zr_world_spec.specs.Acts.{outcome, weighing, declaring, undeclaring, received, ids_of}
 use Rattle.zr_world_spec.specs.Moments.{Numbered, Moment, beginning, went, reached}
 use Rattle.zr_world_spec.specs.Sound.{IsSound}
-use Rattle.zr_world_spec.proofs.Clients.{same_received}
+use Rattle.zr_world_spec.proofs.Clients.{same_received, same_home}
 use Rattle.zr_world_spec.proofs.Cases.{w_down, w_handle, w_sent, number_found, for_router, for_client, for_link, for_up, for_break, for_down, for_declare, for_undeclare, Says, Weighs, interest_says, uninterest_says, publish_says, get_says, reply_says, end_says, for_handle, for_take, for_mark, for_show}
 use Rattle.zr_law_settled.proofs.Spreading.{Name}
 use Rattle.zr_law_settled.proofs.ClientRows.{ClientsHold, linked_stay, taken_stay, broken_stay, none_stay}
@@ -43,12 +43,6 @@ module _ (acts : List Numbered) (now : Moment) (sound : IsSound now.world) (h : 
 
   abbrev pub FlowsThen : ℕ → Act → Moment → Type 0
   FlowsThen n act next = Flows (acts ++ (n, act) ∷ []) next.world
-
-  home_of : (s : ClientState) (kind : Kind) (id : ℕ) → (declaring s kind id).router ≡ s.router
-  home_of s k.Sub id = refl
-  home_of s k.Able id = refl
-  home_of s k.Full id = refl
-  home_of s k.Token id = refl
 
   -- a client says something that is nothing of ids
   says : (n : ℕ) (act : Act) (client : Name) (msg : Msg) → ((c : Name) (kind : Kind) (i : ℕ) (so_far : Option Decl) → stands_by c kind i so_far act ≡ so_far) →
@@ -93,7 +87,7 @@ module _ (acts : List Numbered) (now : Moment) (sound : IsSound now.world) (h : 
       said_flows acts w sound h f n (a.Untoken client id) client s found e at_end (m.Untoken id) (undeclaring s k.Token id) refl w.routers (λ x c kind i. refl)
       (λ c kind i so_far. both (is_named c client) (is_same_id kind i Living id) None so_far))
   flows_keep n (a.Able client id key complete) = for_declare now (FlowsThen n (a.Able client id key complete)) n client (able_kind complete) id key (m.Able id key complete) (λ s found fresh e at_end unbroken r there room.
-      said_flows acts w sound h f n (a.Able client id key complete) client s found e at_end (m.Able id key complete) (declaring s (able_kind complete) id) (home_of s (able_kind complete) id)
+      said_flows acts w sound h f n (a.Able client id key complete) client s found e at_end (m.Able id key complete) (declaring s (able_kind complete) id) (same_home s (able_kind complete) (ids_of s (able_kind complete) ++ id ∷ []))
       (with_router w.routers s.router (weighing r key)) (λ x c kind i. says_kept w s.router r (weighing r key) there c kind i refl x)
       (λ c kind i so_far. both (is_named c client) (is_same_id kind i Queryable id) (Some (record { kind = able_kind complete; key = key })) so_far))
   flows_keep n (a.Unable client id) = for_undeclare now (FlowsThen n (a.Unable client id)) n client k.Able id (m.Unable id) (λ s found known e at_end unbroken.

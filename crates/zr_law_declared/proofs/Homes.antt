@@ -5,7 +5,6 @@ use Rattle.std.specs.Option.{option_map}
 use Rattle.std.proofs.lemmas.List.Sums.{fold-append}
 use Rattle.zr_lists.proofs.Options.{not_there}
 use Rattle.zr_id.specs.Zid.{is_named}
-use Rattle.zr_msg.specs.declared.decl.Kind.{Kind}
 use Rattle.zr_msg.specs.declared.decl.Kind.TheVariants as k
 use Rattle.zr_msg.specs.Extras.{no_extras}
 use Rattle.zr_msg.specs.declared.msg.Msg.{Msg}
@@ -15,10 +14,10 @@ use Rattle.zr_script_spec.specs.declared.command.Act.TheVariants as a
 use Rattle.zr_script_spec.specs.Mode.{is_current, is_future}
 use Rattle.zr_node_spec.specs.Table.{able_kind}
 use Rattle.zr_world_spec.specs.World.{ClientState, Clients, WorldState, client_of, with_client, new_client, is_taken}
-use Rattle.zr_world_spec.specs.Acts.{outcome, declaring, undeclaring, received}
+use Rattle.zr_world_spec.specs.Acts.{outcome, declaring, undeclaring, received, ids_of}
 use Rattle.zr_world_spec.specs.Moments.{Numbered, Moment, went}
 use Rattle.zr_world_spec.proofs.Names.{value_new, read_kept}
-use Rattle.zr_world_spec.proofs.Clients.{SameClients, read_same_clients, same_received}
+use Rattle.zr_world_spec.proofs.Clients.{SameClients, read_same_clients, same_received, same_home}
 use Rattle.zr_world_spec.proofs.Cases.{free_name, for_router, for_client, for_link, for_up, for_break, for_down, for_declare, for_undeclare, Says, Weighs, interest_says, uninterest_says, publish_says, get_says, reply_says, end_says, for_handle, for_take, for_mark, for_show}
 use Rattle.zr_law_settled.proofs.Spreading.{Name}
 use Rattle.zr_law_declared.specs.Declared.{home_by, home}
@@ -51,12 +50,6 @@ module _ (acts : List Numbered) (now : Moment) (h : Homed acts now.world) where
   kept : (name : Name) (s t : ClientState) → client_of w.clients name ≡ Some s → t.router ≡ s.router → (c : Name) → home acts c ≡ router_at (client_of (with_client w.clients name t) c)
   kept name s t found same c = h c ∙ sym (read_kept router_at w.clients name c s t found (ap Some same))
 
-  home_of : (s : ClientState) (kind : Kind) (id : ℕ) → (declaring s kind id).router ≡ s.router
-  home_of s k.Sub id = refl
-  home_of s k.Able id = refl
-  home_of s k.Full id = refl
-  home_of s k.Token id = refl
-
   -- an act that brings no client, and changes interests, queries and requests alone
   same_homes : (n : ℕ) (act : Act) → ((c : Name) (so_far : Option Name) → home_by c so_far act ≡ so_far) → (clients : Clients) → SameClients w.clients clients → (c : Name) →
       home (acts ++ (n, act) ∷ []) c ≡ router_at (client_of clients c)
@@ -86,7 +79,7 @@ module _ (acts : List Numbered) (now : Moment) (h : Homed acts now.world) where
   homes_keep n (a.Untoken client id) = for_undeclare now (HomedThen n (a.Untoken client id)) n client k.Token id (m.Untoken id) (λ s found known e at_end unbroken c.
       home_more acts n (a.Untoken client id) c ∙ kept client s (undeclaring s k.Token id) found refl c)
   homes_keep n (a.Able client id key complete) = for_declare now (HomedThen n (a.Able client id key complete)) n client (able_kind complete) id key (m.Able id key complete) (λ s found fresh e at_end unbroken r there room c.
-      home_more acts n (a.Able client id key complete) c ∙ kept client s (declaring s (able_kind complete) id) found (home_of s (able_kind complete) id) c)
+      home_more acts n (a.Able client id key complete) c ∙ kept client s (declaring s (able_kind complete) id) found (same_home s (able_kind complete) (ids_of s (able_kind complete) ++ id ∷ [])) c)
   homes_keep n (a.Unable client id) = for_undeclare now (HomedThen n (a.Unable client id)) n client k.Able id (m.Unable id) (λ s found known e at_end unbroken c.
       home_more acts n (a.Unable client id) c ∙ kept client s (undeclaring s k.Able id) found refl c)
   homes_keep n (a.Interest client id mode kinds key aggregate) =

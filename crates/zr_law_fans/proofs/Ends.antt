@@ -21,6 +21,7 @@ use Rattle.zr_law_settled.proofs.Order.{Ascend, routers_ascend}
 use Rattle.zr_law_settled.proofs.Rest.{edges_are, weights_are}
 use Rattle.zr_law_settled.proofs.Graphs.{is_graph}
 use Rattle.zr_law_settled.proofs.Goes.{Goes}
+use Rattle.zr_law_settled.proofs.UpEnds.{met_settled}
 use Rattle.zr_law_fan.specs.Samples.{Handling, Taking, at_end, under_way, AreSamples, HaveMoved}
 use Rattle.zr_law_fan.proofs.Running.{runs_move}
 use Rattle.zr_law_fan.proofs.Ending.{HasEnded, run_ends}
@@ -29,7 +30,7 @@ use Rattle.zr_law_fans.proofs.Worth.{worth, SeesItsPart}
 use Rattle.zr_law_fans.proofs.Bound.{worlds_few, spent, none_left}
 use Rattle.zr_law_fans.proofs.Calm.{goes, stands, scripts_are_calm}
 use Rattle.zr_law_fans.proofs.Accepting.{IsAccepted, accepted, samples_of}
-use Rattle.zr_law_fans.proofs.Resting.{met_settled, met_same, rested, all_go, no_step}
+use Rattle.zr_law_fans.proofs.Resting.{met_same, rested, all_go, no_step}
 
 -- each router sees the links that are up, as far as it reaches
 sees : (w : WorldState) → Goes w → is_settled w ≡ true → IsAscending (keys_of w.routers) → SeesItsPart w
@@ -76,7 +77,7 @@ module _ (w : WorldState) (g : Goes w) (settled : is_settled w ≡ true) (ascend
 
   module _ (acts : List Act) (y : List ReportLine × WorldState) (moved : HaveMoved w y.1 y.0 acts) (after : Goes y.1) where
     over : HasEnded most_fan_steps acts y → under_way y.1.ends ≡ []
-    over (inl none) = rested y.1 after.sound after.orderly (met_same w y.1 moved.same (met_settled w g settled)) none
+    over (inl none) = rested y.1 after.sound after.orderly (met_same w y.1 moved.same (met_settled w settled)) none
     over (inr whole) =
         let steps = spent w g.sound seen g.holds.twins g.clients g.bounded.1.few few_clients moved.moved (under_way w.ends) (under_way y.1.ends) samples moved.goes in
         let many = moved.as_many in

@@ -1,39 +1,30 @@
 -- Where a world of a script is settled, each message under way can go, also after some steps: so where no step is possible nothing is under way.
-use Rattle.std.proofs.Common.{◌≡◌, ℕ, Bool, true, false, cond, not, List, [], ◌∷◌, ◌++◌, map, Some, None, Ok, Err, ◌⊎◌, inl, inr, refl, sym, ap, ◌∙◌}
+use Rattle.std.proofs.Common.{◌≡◌, ℕ, Bool, true, false, cond, not, List, [], ◌∷◌, map, Some, None, Ok, Err, inl, inr, refl, sym, ap, ◌∙◌}
 use Rattle.std.specs.Prelude.{◌&&◌, is_some, filter, IfOk}
 use Rattle.std.specs.List.{AllByRecursion, reduce}
 use Rattle.std.specs.Option.{option_map_or}
-use Rattle.std.proofs.lemmas.Bool.{true≢false, and_from, or_cases}
+use Rattle.std.proofs.lemmas.Bool.{and_from}
+use Rattle.std.proofs.Math.Bool.{and-false}
 use Rattle.zr_lists.proofs.Finds.{In}
 use Rattle.zr_orders.proofs.Passes.{append_pass}
 use Rattle.zr_script_spec.specs.declared.command.Act.{Act}
-use Rattle.zr_script_spec.specs.declared.report.ReportLine.{ReportLine}
 use Rattle.zr_script_spec.specs.Step.{◌>>=◌}
-use Rattle.zr_world_spec.specs.World.{Tagged, EndState, End, Ends, WorldState, router_of, end_of, turned, is_empty, is_settled}
+use Rattle.zr_world_spec.specs.World.{Tagged, EndState, End, Ends, WorldState, router_of, end_of, turned, is_empty}
 use Rattle.zr_world_spec.specs.Acts.{Outcome, outcome}
 use Rattle.zr_world_spec.specs.Next.{Done, lesser, can_handle, can_take, ends_where, step_at, next, all_done}
 use Rattle.zr_world_spec.specs.Sound.{IsSound}
 use Rattle.zr_world_spec.proofs.Ends.{end_found}
-use Rattle.zr_world_spec.proofs.Fits.{up_of}
-use Rattle.zr_law_settled.proofs.Worlds.{there_in}
-use Rattle.zr_law_settled.proofs.Moving.{unbroken_at}
-use Rattle.zr_law_settled.proofs.Orderly.{has_wire, has_queue, is_client_in, Orderly}
-use Rattle.zr_law_settled.proofs.Rest.{met}
+use Rattle.zr_world_spec.proofs.Sound.{said_first}
+use Rattle.zr_law_settled.proofs.Orderly.{Orderly}
 use Rattle.zr_law_settled.proofs.Goes.{Goes, goes_on}
+use Rattle.zr_law_settled.proofs.UpEnds.{IsMet, receiver_up, taker_up}
 use Rattle.zr_law_fan.specs.Samples.{Move, Handling, Taking, at_end, under_way, can_go, IsSameBut}
 use Rattle.zr_law_fan.proofs.Running.{flags_same, none_both, none_mapped}
 use Rattle.zr_law_fan.proofs.Ending.{rests}
 
 -- ---- ends that are up
 
--- an end that is up is that of an unbroken link, and where the neighbour is a router, its end is up too
-abbrev pub IsMet : WorldState → Type 0
-IsMet w = (e : End) → up_of (end_of w.ends e) ≡ true → (unbroken_at (end_of w.ends e) ≡ true) × (there_in w e.1 ≡ true → up_of (end_of w.ends (turned e)) ≡ true)
-
-pub met_settled : (w : WorldState) → Goes w → is_settled w ≡ true → IsMet w
-met_settled w g settled e up = met w g.sound g.holds settled e.0 e.1 up
-
--- so it is in the same world but for what waits
+-- what a settled world shows of ends holds in the same world but for what waits
 pub met_same : (w v : WorldState) → IsSameBut w v → IsMet w → IsMet v
 met_same w v same h e up =
     let old = h e (sym (flags_same w v same (λ s. s.up) (λ s. refl) e) ∙ up) in (
@@ -42,35 +33,6 @@ met_same w v same h e up =
     )
 
 module _ (w : WorldState) (sound : IsSound w) (orderly : Orderly w) (met_all : IsMet w) where
-  -- a message on a wire has a receiver whose end is up
-  receiver_up : (e : End) (s : EndState) → end_of w.ends e ≡ Some s → is_empty s.wire ≡ false → s.up ≡ true
-  receiver_up e s found waits = sym (ap up_of found) ∙ by (or_cases (there_in w e.1) (is_client_in w e.1) (sound.neighbours e.0 e.1 (ap is_some found)))
-    where
-      on_wire : has_wire (end_of w.ends e) ≡ true
-      on_wire = ap has_wire found ∙ ap not waits
-
-      unbroken : unbroken_at (end_of w.ends e) ≡ true
-      unbroken = at (unbroken_at (end_of w.ends e)) refl
-        where
-          at : (b : Bool) → unbroken_at (end_of w.ends e) ≡ b → b ≡ true
-          at true k = refl
-          at false k = absurd (true≢false (sym on_wire ∙ orderly.broken_links e k))
-
-      by : (there_in w e.1 ≡ true) ⊎ (is_client_in w e.1 ≡ true) → up_of (end_of w.ends e) ≡ true
-      by (inl r) = (met_all (turned e) (orderly.senders e r on_wire)).1 (sound.routers e.0 e.1 (ap is_some found))
-      by (inr k) = orderly.clients e k unbroken
-
-  -- a queued message can be taken
-  taker_up : (e : End) (s : EndState) → end_of w.ends e ≡ Some s → is_empty s.queue ≡ false → (s.up ≡ true) × (s.unbroken ≡ true)
-  taker_up e s found waits = (sym (ap up_of found) ∙ up, sym (ap unbroken_at found) ∙ (met_all e up).0)
-    where
-      up : up_of (end_of w.ends e) ≡ true
-      up = at (up_of (end_of w.ends e)) refl
-        where
-          at : (b : Bool) → up_of (end_of w.ends e) ≡ b → b ≡ true
-          at true k = refl
-          at false k = absurd (true≢false (sym (ap has_queue found ∙ ap not waits) ∙ orderly.down_ends e k))
-
   -- ---- each message can go
 
   abbrev GoOn : List Move → Type 0
@@ -87,12 +49,12 @@ module _ (w : WorldState) (sound : IsSound w) (orderly : Orderly w) (met_all : I
   on_wire : (e : End) (s : EndState) → end_of w.ends e ≡ Some s → (ms : List Tagged) → s.wire ≡ ms → GoOn (map (λ m. Handling e m) ms)
   on_wire e s found [] is = tt
   on_wire e s found (m ∷ ms) is =
-      handlings e (m ∷ ms) (ap (λ o. option_map_or (λ z. z.up) o false) found ∙ receiver_up e s found (ap is_empty is))
+      handlings e (m ∷ ms) (ap (λ o. option_map_or (λ z. z.up) o false) found ∙ receiver_up w sound orderly met_all e s found (ap is_empty is))
 
   in_queue : (e : End) (s : EndState) → end_of w.ends e ≡ Some s → (ms : List Tagged) → s.queue ≡ ms → GoOn (map (λ m. Taking e m) ms)
   in_queue e s found [] is = tt
   in_queue e s found (m ∷ ms) is =
-      let ups = taker_up e s found (ap is_empty is) in
+      let ups = taker_up w sound orderly met_all e s found (ap is_empty is) in
       takings e (m ∷ ms) (ap (λ o. option_map_or (λ z. z.up && z.unbroken) o false) found ∙ and_from s.up s.unbroken ups.0 ups.1)
 
   at_ends : (es : Ends) → ((e : End × EndState) → In e es → In e w.ends) → GoOn (under_way es)
@@ -113,9 +75,6 @@ pub all_go : (w : WorldState) (line : ℕ) (several : List Act) → Goes w → I
 all_go w line [] g = g
 all_go w line (act ∷ more) g = by (outcome w line act) (goes_on w line act g) (λ v k. all_go v line more k)
   where
-    said_first : List ReportLine → List ReportLine × WorldState → Done
-    said_first said y = Ok (said ++ y.0, y.1)
-
     by : (o : Outcome) → IfOk o (λ x. Goes x.1) → ((v : WorldState) → Goes v → IfOk (all_done v line more) (λ x. Goes x.1)) →
         IfOk (o >>= (λ x. all_done x.1 line more >>= said_first x.0)) (λ x. Goes x.1)
     by (Err e) k ih = tt
@@ -140,12 +99,8 @@ pub no_step : (w : WorldState) → under_way w.ends ≡ [] → next w ≡ None
 no_step w none =
     λ i. step_at (reduce lesser (no_ends can_handle (λ s wire queue. handles s.up s wire) w.ends none i)) (reduce lesser (no_ends can_take (λ s wire queue. takes (s.up && s.unbroken) s queue) w.ends none i))
   where
-    never : (b : Bool) → (b && false) ≡ false
-    never true = refl
-    never false = refl
-
     handles : (b : Bool) (s : EndState) → s.wire ≡ [] → (b && not (is_empty s.wire)) ≡ false
-    handles b s wire = ap (λ ws. b && not (is_empty ws)) wire ∙ never b
+    handles b s wire = ap (λ ws. b && not (is_empty ws)) wire ∙ and-false b
 
     takes : (b : Bool) (s : EndState) → s.queue ≡ [] → (b && not (is_empty s.queue)) ≡ false
-    takes b s queue = ap (λ ws. b && not (is_empty ws)) queue ∙ never b
+    takes b s queue = ap (λ ws. b && not (is_empty ws)) queue ∙ and-false b

@@ -1,5 +1,5 @@
 -- A sample leaves a router as it is whose clients were told of what they want, and nobody is told anything of it.
-use Rattle.std.proofs.Common.{◌≡◌, ℕ, Bool, true, false, cond, List, [], ◌∷◌, map, Option, Some, None, inl, inr, refl, sym, ap, ◌∙◌}
+use Rattle.std.proofs.Common.{◌≡◌, ℕ, Bool, true, false, cond, List, [], ◌∷◌, Option, Some, None, inl, inr, refl, sym, ap, ◌∙◌}
 use Rattle.std.specs.Prelude.{◌==◌, not, filter, unwrap_or}
 use Rattle.std.specs.Map.{lookup}
 use Rattle.std.specs.Option.{option_map_or}
@@ -17,11 +17,11 @@ use Rattle.zr_local.specs.Clients.{interests_on}
 use Rattle.zr_node_spec.specs.Tables.{TableState, is_router, link_to, leads_to_client}
 use Rattle.zr_node_spec.specs.State.{tables}
 use Rattle.zr_node_spec.specs.Table.{after}
-use Rattle.zr_told_spec.specs.Hub.{asking_of, asking_on, tells_with, told_with, sends_told, told_after, by_link}
-use Rattle.zr_told_spec.specs.Rows.{Maps, map_on, others, IsAsWanted}
+use Rattle.zr_told_spec.specs.Hub.{asking_on, told_with, sends_told, told_after, by_link}
+use Rattle.zr_told_spec.specs.Rows.{map_on, others, IsAsWanted}
 use Rattle.zr_told_spec.specs.Told.{ToldMap}
-use Rattle.zr_told_spec.proofs.Events.{nothing_is_told}
-use Rattle.zr_told_spec.proofs.Hubs.{hub_is_as_wanted}
+use Rattle.zr_told_spec.proofs.Calm.{told_stays as sample_stays, untold as sample_untold}
+use Rattle.zr_told_spec.proofs.Hubs.{hub_is_as_wanted, entries}
 use Rattle.zr_world_spec.specs.World.{RouterState, new_router}
 use Rattle.zr_world_spec.specs.Acts.{hub_of, told_to, weighing, having_told}
 
@@ -32,9 +32,6 @@ pub record IsRight (r : RouterState) : Type 0 where
   pub listed : r.told ≡ by_link r.node.links (λ k. map_on r.told k)
 
 -- ---- maps by links
-
-abbrev entries : List LinkPeer → (ℕ → ToldMap) → Maps
-entries ls g = map (λ l. (l.link.0, g l.link.0)) ls
 
 abbrev at : (ℕ → ToldMap) → Bool → LinkPeer → List LinkPeer → ℕ → ToldMap
 at f b l ls k = unwrap_or (cond b (Some (f l.link.0)) (lookup (λ j. is_eq (nat_cmp k j)) (entries ls f))) []
@@ -100,28 +97,13 @@ module _ (r : RouterState) (right : IsRight r) (l : LinkNo) (tree : Option (List
   abbrev t : TableState
   t = tables r.node
 
-  unasked : (k : ℕ) → asking_on sample k ≡ None
-  unasked k = by (l.0 == k)
-    where
-      by : (b : Bool) → cond b (asking_of (Push tree content)) None ≡ None
-      by true = refl
-      by false = refl
-
   -- what was told stays
   told_stays : (k : ℕ) → told_after t (λ j. map_on r.told j) sample k ≡ map_on r.told k
-  told_stays k = by (leads_to_client t.links k) refl
-    where
-      by : (b : Bool) → leads_to_client t.links k ≡ b → cond b (told_with t (map_on r.told k) k (asking_on sample k)) [] ≡ map_on r.told k
-      by true e = ap (told_with t (map_on r.told k) k) (unasked k) ∙ (nothing_is_told (others t k) (interests_on t.clients k) (map_on r.told k) (right.wanted k e)).1
-      by false e = sym (right.forgotten k e)
+  told_stays k = sample_stays t (λ j. map_on r.told j) right.wanted right.forgotten l tree content k
 
   -- nothing is told
   untold : (k : ℕ) → sends_told t (map_on r.told k) sample k ≡ []
-  untold k = by (leads_to_client t.links k) refl
-    where
-      by : (b : Bool) → leads_to_client t.links k ≡ b → cond b (tells_with t (map_on r.told k) k (asking_on sample k)) [] ≡ []
-      by true e = ap (tells_with t (map_on r.told k) k) (unasked k) ∙ (nothing_is_told (others t k) (interests_on t.clients k) (map_on r.told k) (right.wanted k e)).0
-      by false e = refl
+  untold k = sample_untold t (λ j. map_on r.told j) right.wanted right.forgotten l tree content k
 
   pub router_stays : having_told r sample ≡ r
   router_stays = λ i. record { node = r.node; told = same i; weight = r.weight }

@@ -1,11 +1,11 @@
 -- In a phase no step is possible exactly where nothing is under way: each end with a message on its wire is up, and each with one that is
 -- queued is up too and its link unbroken. It follows from what holds of every world (`Orderly`) and from what the mark found
 -- settled, which no act of the phase changes (`IsMet`).
-use Rattle.std.proofs.Common.{◌≡◌, ℕ, Bool, true, false, cond, List, [], ◌∷◌, ◌++◌, map, Option, Some, None, ◌⊎◌, inl, inr, refl, sym, ap, ◌∙◌, append_assoc}
+use Rattle.std.proofs.Common.{◌≡◌, ℕ, Bool, true, false, cond, List, [], ◌∷◌, ◌++◌, map, Option, Some, None, refl, sym, ap, ◌∙◌, append_assoc}
 use Rattle.std.specs.Prelude.{◌&&◌, ◌||◌, not, is_some, is_none, unwrap_or, filter, IfSome}
 use Rattle.std.specs.List.{AllByRecursion, fold, list_all, reduce}
 use Rattle.std.specs.Map.{values_of}
-use Rattle.std.proofs.lemmas.Bool.{false≢true, true≢false, and_parts, and_from, or_cases}
+use Rattle.std.proofs.lemmas.Bool.{false≢true, and_parts, and_from}
 use Rattle.std.proofs.lemmas.List.Sums.{fold-append}
 use Rattle.zr_msg.specs.declared.msg.Msg.{Msg}
 use Rattle.zr_msg.specs.declared.msg.Msg.TheVariants as m
@@ -14,13 +14,13 @@ use Rattle.zr_msg.specs.Extras.{no_extras}
 use Rattle.zr_script_spec.specs.declared.command.Act.{Act}
 use Rattle.zr_script_spec.specs.declared.command.Act.TheVariants as c
 use Rattle.zr_script_spec.specs.Mode.{is_current, is_future}
-use Rattle.zr_world_spec.specs.World.{EndState, End, Ends, WorldState, turned, end_of, with_wire, with_queue, with_end, sent, is_empty, is_idle, is_quiet, is_met, is_calm_end, is_settled}
+use Rattle.zr_world_spec.specs.World.{EndState, End, Ends, WorldState, turned, end_of, with_wire, with_queue, with_end, sent, is_empty, is_idle, is_quiet}
 use Rattle.zr_world_spec.specs.Acts.{weighing, having_told, outcome}
 use Rattle.zr_world_spec.specs.Next.{lesser, ends_where, first_where, can_handle, can_take, step_at, next}
 use Rattle.zr_world_spec.specs.Moments.{Numbered, Moment, beginning, went, onward, reached}
 use Rattle.zr_world_spec.specs.Sound.{IsSound}
 use Rattle.zr_guarantee.specs.Phase.{stays, is_phase}
-use Rattle.zr_world_spec.proofs.Keyed.{found_entry, all_found}
+use Rattle.zr_world_spec.proofs.Keyed.{all_found}
 use Rattle.zr_world_spec.proofs.Names.{read_kept}
 use Rattle.zr_world_spec.proofs.Ends.{end_order, same_end, keep_with_end, keep_changed}
 use Rattle.zr_world_spec.proofs.Fits.{up_of}
@@ -31,8 +31,9 @@ use Rattle.zr_law_declared.proofs.Folds.{at_some, after_all}
 use Rattle.zr_law_declared.proofs.Hearing.{keep_heard, heard_router}
 use Rattle.zr_law_settled.proofs.Worlds.{there_in}
 use Rattle.zr_law_settled.proofs.Moving.{unbroken_at}
-use Rattle.zr_law_settled.proofs.Orderly.{has_wire, has_queue, is_client_in, Orderly}
+use Rattle.zr_law_settled.proofs.Orderly.{Orderly}
 use Rattle.zr_law_settled.proofs.Goes.{Goes, goes_at}
+use Rattle.zr_law_settled.proofs.UpEnds.{IsMet, met_settled, receiver_up, taker_up}
 
 -- ---- the next step
 
@@ -85,26 +86,6 @@ both (x ∷ es) k =
     by false b false v p q f g h = absurd (false≢true g)
 
 -- ---- what a mark has found settled
-
--- an end that is up is that of an unbroken link, and where the neighbour is a router, its end is up too
-abbrev IsMet : WorldState → Type 0
-IsMet w = (e : End) → up_of (end_of w.ends e) ≡ true → (unbroken_at (end_of w.ends e) ≡ true) × (there_in w e.1 ≡ true → up_of (end_of w.ends (turned e)) ≡ true)
-
-met_settled : (w : WorldState) → is_settled w ≡ true → IsMet w
-met_settled w settled e = by (end_of w.ends e) refl
-  where
-    at : (s : EndState) (up : Bool) → s.up ≡ up → (not up || (s.unbroken && (not (there_in w e.1) || up_of (end_of w.ends (turned e))))) ≡ true → s.up ≡ true →
-        (s.unbroken ≡ true) × (there_in w e.1 ≡ true → up_of (end_of w.ends (turned e)) ≡ true)
-    at s false k met up = absurd (false≢true (sym k ∙ up))
-    at s true k met up =
-        let parts = and_parts s.unbroken (not (there_in w e.1) || up_of (end_of w.ends (turned e))) met in
-        (parts.0, λ r. sym (ap (λ b. not b || up_of (end_of w.ends (turned e))) r) ∙ parts.1)
-
-    by : (o : Option EndState) → end_of w.ends e ≡ o → up_of o ≡ true → (unbroken_at o ≡ true) × (there_in w e.1 ≡ true → up_of (end_of w.ends (turned e)) ≡ true)
-    by None k up = absurd (false≢true up)
-    by (Some s) k up =
-        let found = and_parts (is_met w e s) (is_calm_end s) (found_entry end_order same_end (λ x. is_met w x.0 x.1 && is_calm_end x.1) w.ends e s settled k) in
-        at s s.up refl found.0 up
 
 -- the same flags, and the same routers
 met_same : (w w' : WorldState) → ((e : End) → up_of (end_of w'.ends e) ≡ up_of (end_of w.ends e)) → ((e : End) → unbroken_at (end_of w'.ends e) ≡ unbroken_at (end_of w.ends e)) →
@@ -162,45 +143,16 @@ act_met now h n (c.Show router) st = for_show now (λ next. IsMet next.world) ro
 -- ---- all that waits can go on
 
 module _ (w : WorldState) (sound : IsSound w) (orderly : Orderly w) (met : IsMet w) where
-  -- a message on a wire has a receiver whose end is up
-  receiver_up : (e : End) (s : EndState) → end_of w.ends e ≡ Some s → is_empty s.wire ≡ false → s.up ≡ true
-  receiver_up e s found waits = sym (ap up_of found) ∙ by (or_cases (there_in w e.1) (is_client_in w e.1) (sound.neighbours e.0 e.1 (ap is_some found)))
-    where
-      on_wire : has_wire (end_of w.ends e) ≡ true
-      on_wire = ap has_wire found ∙ ap not waits
-
-      unbroken : unbroken_at (end_of w.ends e) ≡ true
-      unbroken = at (unbroken_at (end_of w.ends e)) refl
-        where
-          at : (b : Bool) → unbroken_at (end_of w.ends e) ≡ b → b ≡ true
-          at true k = refl
-          at false k = absurd (true≢false (sym on_wire ∙ orderly.broken_links e k))
-
-      by : (there_in w e.1 ≡ true) ⊎ (is_client_in w e.1 ≡ true) → up_of (end_of w.ends e) ≡ true
-      by (inl r) = (met (turned e) (orderly.senders e r on_wire)).1 (sound.routers e.0 e.1 (ap is_some found))
-      by (inr k) = orderly.clients e k unbroken
-
-  -- a queued message can be taken
-  taker_up : (e : End) (s : EndState) → end_of w.ends e ≡ Some s → is_empty s.queue ≡ false → (s.up ≡ true) × (s.unbroken ≡ true)
-  taker_up e s found waits = (sym (ap up_of found) ∙ up, sym (ap unbroken_at found) ∙ (met e up).0)
-    where
-      up : up_of (end_of w.ends e) ≡ true
-      up = at (up_of (end_of w.ends e)) refl
-        where
-          at : (b : Bool) → up_of (end_of w.ends e) ≡ b → b ≡ true
-          at true k = refl
-          at false k = absurd (true≢false (sym (ap has_queue found ∙ ap not waits) ∙ orderly.down_ends e k))
-
   each_goes_on : (e : End) (s : EndState) → end_of w.ends e ≡ Some s → goes_on s ≡ true
   each_goes_on e s found = and_from (is_empty s.wire || s.up) (is_empty s.queue || (s.up && s.unbroken)) (wire (is_empty s.wire) refl) (queue (is_empty s.queue) refl)
     where
       wire : (b : Bool) → is_empty s.wire ≡ b → (b || s.up) ≡ true
       wire true k = refl
-      wire false k = receiver_up e s found k
+      wire false k = receiver_up w sound orderly met e s found k
 
       queue : (b : Bool) → is_empty s.queue ≡ b → (b || (s.up && s.unbroken)) ≡ true
       queue true k = refl
-      queue false k = let t = taker_up e s found k in and_from s.up s.unbroken t.0 t.1
+      queue false k = let t = taker_up w sound orderly met e s found k in and_from s.up s.unbroken t.0 t.1
 
   pub quiet_at_rest : is_none (next w) ≡ is_quiet w
   quiet_at_rest =

@@ -3,8 +3,8 @@
 -- there; to a router that it goes on to it goes once, and that one is a child; to a client it goes once where the client subscribes and
 -- isn't the publisher.
 use Rattle.std.proofs.Common.{◌≡◌, ℕ, Bool, true, false, cond, ◌&&◌, not, List, [], ◌∷◌, ◌++◌, Option, Some, None, is_some, refl, sym, ap, ◌∙◌, append-nil, subst}
-use Rattle.std.specs.Prelude.{◌==◌, if◌then◌else◌}
-use Rattle.std.specs.List.{cons_option, flat_map, list_all, list_any}
+use Rattle.std.specs.Prelude.{◌==◌}
+use Rattle.std.specs.List.{cons_option, list_all, list_any}
 use Rattle.std.proofs.lemmas.List.Elements.{filter_map-append}
 use Rattle.std.specs.Option.{option_map_or}
 use Rattle.std.specs.Ordering.{is_eq, nat_cmp}
@@ -12,7 +12,6 @@ use Rattle.std.specs.Cmp.Lexicographic.{slice_cmp}
 use Rattle.std.proofs.lemmas.Bool.{false≢true, and_parts, and_from}
 use Rattle.zr_id.specs.Zid.{is_named}
 use Rattle.zr_id.specs.declared.link.LinkNo.{LinkNo}
-use Rattle.zr_tree.specs.Walk.{graph_of}
 use Rattle.zr_tree.specs.Tree.{parent, is_child, below, reached, toward}
 use Rattle.zr_lists.proofs.Finds.{find_in, any_in, in_any}
 use Rattle.zr_graph.proofs.Names.{same_is, same_refl}
@@ -30,10 +29,11 @@ use Rattle.zr_log.specs.declared.log.Log.{Log}
 use Rattle.zr_log.specs.Known.{log_of, decls}
 use Rattle.zr_node_spec.specs.Tables.{TableState, is_router, link_at, link_to, graph}
 use Rattle.zr_node_spec.specs.Samples.{is_for, subscribes, is_toward, leads_to_source, leads_to_subscriber, named_tree, tree_by, tree_of, push_to, push_on, push_along}
-use Rattle.zr_node_spec.specs.Snapshots.{is_new_child, snapshot, snapshots_for, snapshots_on, sends_snapshots}
+use Rattle.zr_node_spec.specs.Snapshots.{sends_snapshots}
 use Rattle.zr_node_spec.specs.Queries.{can_answer, leads_to_queryable, is_asked, asked_links, tree_for, request_to, request_along, final_at_once, sends_request}
 use Rattle.zr_node_spec.specs.State.{NodeState, tables}
 use Rattle.zr_node_spec.specs.Table.{sends_from, sends, after_from}
+use Rattle.zr_node_spec.proofs.NoNewChildren.{no_new_children}
 use Rattle.zr_msg.specs.declared.msg.Target.{Target}
 use Rattle.zr_guarantee.specs.Item.{Carried, Sample, Query}
 use Rattle.zr_guarantee.specs.Sent.{carried_by}
@@ -46,34 +46,11 @@ use Rattle.zr_world_spec.specs.Acts.{sends_to}
 
 -- ---- tables that stay
 
--- by the same records nobody is a new child
-no_new_child : (t : TableState) (name : List ℕ) → snapshots_for t t.base.records name ≡ []
-no_new_child t name = none t.known.logs
-  where
-    never : (b : Bool) → (b && not b) ≡ false
-    never true = refl
-    never false = refl
-
-    none : (logs : List Log) → flat_map (λ log. if is_new_child t.base.records t.base.records t.base.me log.source name then snapshot log ∷ [] else []) logs ≡ []
-    none [] = refl
-    none (x ∷ xs) = rw (never (is_child (graph_of t.base.records) x.source t.base.me name)) (none xs)
-
-no_snapshots : (t : TableState) (to : ℕ) → sends_snapshots t t.base.records to ≡ []
-no_snapshots t to = by (link_at t.links to)
-  where
-    on_link : (l : LinkPeer) (role : Role) → (if is_router role then snapshots_for t t.base.records l.peer.id else []) ≡ []
-    on_link l Client = refl
-    on_link l Router = no_new_child t l.peer.id
-
-    by : (o : Option LinkPeer) → option_map_or (λ l. snapshots_on t t.base.records l) o [] ≡ []
-    by None = refl
-    by (Some l) = on_link l l.peer.role
-
 module _ (node : NodeState) (l : LinkNo) (msg : Msg) (same : idle (after_from node l.0 msg) ≡ idle node) where
   sends_only : (to : LinkNo) → sends node (From l msg) to ≡ sends_from node l.0 msg to.0
   sends_only to =
       ap (λ z. sends_from node l.0 msg to.0 ++ sends_snapshots (tables z) node.base.records to.0) same
-      ∙ ap (λ z. sends_from node l.0 msg to.0 ++ z) (no_snapshots (tables node) to.0) ∙ append-nil (sends_from node l.0 msg to.0)
+      ∙ ap (λ z. sends_from node l.0 msg to.0 ++ z) (no_new_children (tables node) node.base.records refl to.0) ∙ append-nil (sends_from node l.0 msg to.0)
 
   -- what goes to a neighbour
   pub goes_to : (name : List ℕ) → sends_to node (From l msg) name ≡ option_map_or (λ k. sends_from node l.0 msg k.link.0) (link_to node.links name) []

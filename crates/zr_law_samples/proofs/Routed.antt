@@ -4,7 +4,6 @@
 use Rattle.std.proofs.Common.{◌≡◌, ℕ, Bool, true, false, cond, List, Option, Some, None, Ok, inl, inr, refl, sym, ap, ◌∙◌, subst}
 use Rattle.std.specs.Prelude.{◌==◌, ◌&&◌, ◌||◌, not, is_some, is_none}
 use Rattle.std.specs.List.{list_all, list_any}
-use Rattle.std.specs.Option.{option_map_or}
 use Rattle.std.proofs.lemmas.Bool.{false≢true, true≢false, and_parts, and_from, or_left, or_right, eqb-true, eq-eqb}
 use Rattle.zr_id.specs.Zid.{is_named}
 use Rattle.zr_id.specs.declared.link.LinkNo.{LinkNo}
@@ -22,7 +21,7 @@ use Rattle.zr_log.specs.Known.{decls}
 use Rattle.zr_node_spec.specs.Tables.{is_router, link_at, link_to}
 use Rattle.zr_node_spec.specs.Samples.{leads_to_source, tree_of}
 use Rattle.zr_node_spec.specs.State.{NodeState, tables}
-use Rattle.zr_world_spec.specs.World.{EndState, RouterState, ClientState, WorldState, router_of, client_of, end_of, is_up, is_linked}
+use Rattle.zr_world_spec.specs.World.{RouterState, ClientState, WorldState, router_of, client_of, end_of, is_up, is_linked}
 use Rattle.zr_world_spec.specs.Joined.{graph}
 use Rattle.zr_world_spec.specs.Acts.{number_to, sends_to}
 use Rattle.zr_world_spec.specs.Moments.{Numbered}
@@ -34,6 +33,7 @@ use Rattle.zr_world_spec.proofs.Keyed.{there}
 use Rattle.zr_world_spec.proofs.Names.{names, same_name}
 use Rattle.zr_world_spec.proofs.Links.{named_link, numbered_link}
 use Rattle.zr_world_spec.proofs.Cases.{number_found}
+use Rattle.zr_world_spec.proofs.Fits.{up_is_there}
 use Rattle.zr_law_samples.proofs.Idle.{asked_as}
 use Rattle.zr_law_samples.proofs.Ways.{root_no_child, one_parent, up_from, IsNext, on_whole_way}
 use Rattle.zr_law_samples.proofs.Pushes.{tree_from_client, tree_from_parent, takes_it, asks_it, has_taker, goes_over, leads_to_child, leads_there, names_tree, Goes, goes_of, over_client, over_router}
@@ -54,11 +54,6 @@ pub record AreReady (before : List Numbered) (w : WorldState) : Type 0 where
   pub linked : (name : List ℕ) (s : ClientState) → client_of w.clients name ≡ Some s → is_attached before name ≡ true → is_up w.ends (s.router, name) ≡ true
   pub asked : (name : List ℕ) (s : ClientState) (r : RouterState) (k : LinkPeer) → client_of w.clients name ≡ Some s → is_attached before name ≡ true →
       router_of w.routers s.router ≡ Some r → link_to r.node.links name ≡ Some k → (carried : Carried) → asks_it r.node.rows k.link.0 carried ≡ takes before name carried
-
--- an end that is up is there
-up_there : (o : Option EndState) → option_map_or (λ s. s.up) o false ≡ true → is_some o ≡ true
-up_there None h = absurd (false≢true h)
-up_there (Some s) h = refl
 
 module _ (before phase : List Numbered) (w : WorldState) (h : AreReady before w) (publisher receiver : List ℕ) (sa sd : ClientState)
     (ea : client_of w.clients publisher ≡ Some sa) (ed : client_of w.clients receiver ≡ Some sd) (attached : is_attached before receiver ≡ true) where
@@ -106,11 +101,8 @@ module _ (before phase : List Numbered) (w : WorldState) (h : AreReady before w)
   ends_up : (x y : List ℕ) → is_linked w.ends x y ≡ true → (is_up w.ends (x, y) ≡ true) × (is_up w.ends (y, x) ≡ true)
   ends_up x y k = and_parts (is_up w.ends (x, y)) (is_up w.ends (y, x)) k
 
-  end_there : (x y : List ℕ) → is_up w.ends (x, y) ≡ true → is_some (end_of w.ends (x, y)) ≡ true
-  end_there x y k = up_there (end_of w.ends (x, y)) k
-
   router_there : (x y : List ℕ) → is_up w.ends (x, y) ≡ true → is_there x ≡ true
-  router_there x y k = h.sound.routers x y (end_there x y k)
+  router_there x y k = h.sound.routers x y (up_is_there (end_of w.ends (x, y)) k)
 
   -- a parent and its child have a link that is up at both ends
   child_linked : (x y : List ℕ) → is_child (graph w) sa.router x y ≡ true → (is_up w.ends (x, y) ≡ true) × (is_up w.ends (y, x) ≡ true)
@@ -313,7 +305,7 @@ module _ (before phase : List Numbered) (w : WorldState) (h : AreReady before w)
 
     end_is : Next → is_some (end_of w.ends (x, to)) ≡ true
     end_is (inl n) = ap (λ z. is_some (end_of w.ends (z, to))) n.1 ∙ ap (λ z. is_some (end_of w.ends (sd.router, z))) n.0 ∙ h.sound.clients receiver sd ed
-    end_is (inr n) = end_there x to (child_linked x to n.1).0
+    end_is (inr n) = up_is_there (end_of w.ends (x, to)) (child_linked x to n.1).0
 
     routes : Next → (r : RouterState) → router_of w.routers x ≡ Some r → (now : NodeState) (l : LinkNo) → number_to r s ≡ Ok l → (msg : Msg) (carried : Carried) → carried_by msg ≡ Some carried →
         comes_down pair_of x s msg ≡ true → IsSentOn pair_of to carried (sends_to (asked_as r.node now) (From l msg) to)
@@ -328,7 +320,7 @@ module _ (before phase : List Numbered) (w : WorldState) (h : AreReady before w)
   between : (x p : List ℕ) → parent (graph w) sa.router x ≡ Some p → below (graph w) sa.router x sd.router ≡ true → Between pair_of x p
   between x p e b =
       let ups = child_linked p x (child_from (graph w) sa.router p x e) in
-      record { end_is = end_there x p ups.1; router = router_there p x ups.0 }
+      record { end_is = up_is_there (end_of w.ends (x, p)) ups.1; router = router_there p x ups.0 }
 
   inner : (to x p : List ℕ) → IsNext (graph w) h.is_graph sa.router sd.router far.0 far.1 receiver to x → below (graph w) sa.router x sd.router ≡ true → parent (graph w) sa.router x ≡ Some p → OnWay pair_of to x p
   inner to x p n b e = on to x p leads_it n

@@ -36,12 +36,12 @@ use Rattle.zr_link.specs.Ends.{end_of_up, reason_of, IsEarly}
 use Rattle.zr_link.specs.Acts.{Act, Does, up, down, froms}
 use Rattle.zr_port.specs.Coming.{Answering, Sight, sight, AddsOne, delivered}
 use Rattle.zr_outside.specs.Told.{Appends}
+use Rattle.zr_outside.proofs.Appending.{appends_both}
 use Rattle.zr_link.specs.Heard.{Takes, AreMessages, messages, HearsOn, HearsSomeOn, IsOpen, IsUnopened, IsIn, IsBegun, first_of}
 use Rattle.zr_link.specs.Written.{Gives, Answered, IsWritten, Wrote, WroteAnswers, close_with}
 use Rattle.zr_link.specs.Gone.{IsGone}
 use Rattle.zr_link.specs.Run.{EarlyEnds, NotTaken, Enters, GoesDown, Runs}
 use Rattle.zr_link.proofs.Hearing.{takes_none, takes_then, as_before, answers_stay}
-use Rattle.zr_link_writer.proofs.Carrying.{appends_both}
 use Rattle.zr_link.proofs.Unopened.{written_more, rose_before}
 use Rattle.zr_port.proofs.Coming.{looks_self, adds_one}
 use Rattle.zr_link.proofs.Going.{does_none, does_then, added_does, through_does, does_entry, are_messages, ends_map, early_ends, Followed}

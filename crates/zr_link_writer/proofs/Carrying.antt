@@ -1,44 +1,9 @@
 -- Bytes that are written and bytes that wait, step by step.
-use Rattle.std.proofs.Common.{◌≡◌, ℕ, List, [], ◌++◌, Option, Some, None, refl, sym, ap, ◌∙◌, append_assoc}
+use Rattle.std.proofs.Common.{◌≡◌, ℕ, List, [], ◌++◌, Option, refl, sym, ap, ◌∙◌, append_assoc}
 use Rattle.std.proofs.lemmas.List.{append-nil}
 use Rattle.zr_outside.specs.Told.{Appends, AppendsPrefix}
+use Rattle.zr_outside.proofs.Appending.{appends_none, appends_both, prefix_behind}
 use Rattle.zr_link_writer.specs.Writing.{Carries}
-
-pub appends_none : (a : Option (List ℕ)) → Appends [] a a
-appends_none None = tt
-appends_none (Some held) = ap Some (sym (append-nil held))
-
-pub appends_both : (u v : List ℕ) (a b c : Option (List ℕ)) → Appends u a b → Appends v b c → Appends (u ++ v) a c
-appends_both u v None b c h k = tt
-appends_both u v (Some held) b c h k = rw h at k ∙ ap Some (append_assoc held u v)
-
-pub appends_nothing_more : (u : List ℕ) (a b : Option (List ℕ)) → Appends u a b → Appends (u ++ []) a b
-appends_nothing_more u a b h = rw (append-nil u) h
-
-pub prefix_none : (u : List ℕ) (a : Option (List ℕ)) → AppendsPrefix u a a
-prefix_none u None = tt
-prefix_none u (Some held) = ([], u, refl, ap Some (sym (append-nil held)))
-
--- what was written is a prefix of more
-pub prefix_written : (u v : List ℕ) (a b : Option (List ℕ)) → Appends u a b → AppendsPrefix (u ++ v) a b
-prefix_written u v None b h = tt
-prefix_written u v (Some held) b h = (u, v, refl, h)
-
-pub prefix_more : (u v : List ℕ) (a b : Option (List ℕ)) → AppendsPrefix u a b → AppendsPrefix (u ++ v) a b
-prefix_more u v None b h = tt
-prefix_more u v (Some held) b h = (h.0, h.1 ++ v, ap (λ z. z ++ v) h.2 ∙ append_assoc h.0 h.1 v, h.3)
-
--- a prefix behind what was written
-pub prefix_behind : (u v : List ℕ) (a b c : Option (List ℕ)) → Appends u a b → AppendsPrefix v b c → AppendsPrefix (u ++ v) a c
-prefix_behind u v None b c h k = tt
-prefix_behind u v (Some held) (Some now) c h k =
-    let is : now ≡ held ++ u = cc h in (
-      u ++ k.0,
-      k.1,
-      ap (λ z. u ++ z) k.2 ∙ sym (append_assoc u k.0 k.1),
-      k.3 ∙ ap (λ z. Some (z ++ k.0)) is ∙ ap Some (append_assoc held u k.0),
-    )
-prefix_behind u v (Some held) None c h k = absurd (cc h)
 
 -- what waited was written, and more waits
 pub carries_written : (u v : List ℕ) (a b : Option (List ℕ)) → Appends u a b → Carries a b v (u ++ v)
@@ -80,7 +45,3 @@ pub carries_sent : (a b c : Option (List ℕ)) (text more : List ℕ) → Carrie
 carries_sent a b c text more p h =
     let e : text ≡ p.0 = p.2 ∙ append-nil p.0 in
     (p.0 ++ more, appends_both p.0 more a b c p.1 h, ap (λ z. z ++ more) e ∙ sym (append-nil (p.0 ++ more)))
-
-pub prefix_whole : (u : List ℕ) (a b : Option (List ℕ)) → Appends u a b → AppendsPrefix u a b
-prefix_whole u None b h = tt
-prefix_whole u (Some held) b h = (u, [], sym (append-nil u), h)

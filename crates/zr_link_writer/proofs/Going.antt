@@ -3,6 +3,7 @@ use Rattle.std.proofs.Common.{◌≡◌, ℕ, ◌+◌, ◌*◌, ◌≤◌, inl, 
 use Rattle.std.proofs.lemmas.List.{append-nil}
 use Rattle.zr_frame_batch.specs.Framing.{framed}
 use Rattle.zr_outside.specs.Told.{Appends, AppendsPrefix}
+use Rattle.zr_outside.proofs.Appending.{prefix_more, appends_nothing_more}
 use Rattle.zr_ring.specs.declared.parcel.Note.{Ghosts}
 use Rattle.zr_ring.specs.declared.parcel.Parcel.{Parcel}
 use Rattle.zr_ring.specs.declared.parcel.Ending.{Ending}
@@ -13,7 +14,7 @@ use Rattle.zr_ring.specs.Taker.{TakesEnd}
 use Rattle.zr_ring.proofs.Items.{end_of_one}
 use Rattle.zr_link_writer.specs.Parts.{Part, parcel, keep_alive, keep_alive_bytes, bytes_of_part, text_of, parcels_of, keep_alives, close_bytes, bodies}
 use Rattle.zr_link_writer.specs.Writing.{keep_alive_ms, Carries, Rests, Fails, Writes, Goes}
-use Rattle.zr_link_writer.proofs.Carrying.{carries_then, carries_all, carries_prefix, carries_flushed, carries_sent, carries_joined, prefix_more, appends_nothing_more}
+use Rattle.zr_link_writer.proofs.Carrying.{carries_then, carries_all, carries_prefix, carries_flushed, carries_sent, carries_joined}
 
 -- ---- one part more
 

@@ -1,36 +1,17 @@
 -- Parts of a script behind one another: one more item of a part, a part behind another, and draws behind draws.
-use Rattle.std.proofs.Common.{◌≡◌, ℕ, suc, zero, ◌+◌, ◌-◌, ◌*◌, ◌%◌, ◌<◌, List, [], ◌∷◌, ◌++◌, Option, Some, None, Result, Ok, Err, arith, refl, sym, ap, subst, ◌∙◌, append_assoc}
+use Rattle.std.proofs.Common.{◌≡◌, ℕ, suc, zero, ◌+◌, ◌-◌, ◌*◌, ◌%◌, ◌<◌, List, [], ◌∷◌, ◌++◌, Option, Result, Ok, Err, arith, refl, sym, ap, subst, ◌∙◌, append_assoc}
 use Rattle.std.proofs.lemmas.List.{append-nil}
 use Rattle.std.proofs.lemmas.List.Concat.{flat_map-append}
 use Rattle.std.specs.List.{flat_map, range_with_len}
 use Rattle.std.specs.Result.{IsErr, OnErr, OnOk}
 use Rattle.rand_core.specs.Stream.{Stream, next_u32}
 use Rattle.zr_outside.specs.Told.{Appends, AppendsPrefix}
+use Rattle.zr_outside.proofs.Appending.{appends_both, prefix_more, prefix_behind}
 use Rattle.zr_make.specs.declared.error.MakeError.{MakeError}
 use Rattle.zr_make.specs.declared.plan.MakePlan.{MakePlan}
 use Rattle.zr_make.specs.Draws.{behind, drawn_from, pick}
 use Rattle.zr_make.specs.Making.{Makes}
 use Rattle.zr_make.specs.Script.{client_lines, link_lines, network, sample_line, script, text_of, traffic}
-
--- ---- bytes
-
-appends_both : (u v : List ℕ) (a b c : Option (List ℕ)) → Appends u a b → Appends v b c → Appends (u ++ v) a c
-appends_both u v None b c h k = tt
-appends_both u v (Some held) b c h k = rw h at k ∙ ap Some (append_assoc held u v)
-
-prefix_more : (u v : List ℕ) (a b : Option (List ℕ)) → AppendsPrefix u a b → AppendsPrefix (u ++ v) a b
-prefix_more u v None b h = tt
-prefix_more u v (Some held) b h = (h.0, h.1 ++ v, ap (λ z. z ++ v) h.2 ∙ append_assoc h.0 h.1 v, h.3)
-
-prefix_behind : (u v : List ℕ) (a b c : Option (List ℕ)) → Appends u a b → AppendsPrefix v b c → AppendsPrefix (u ++ v) a c
-prefix_behind u v None b c h k = tt
-prefix_behind u v (Some held) b c h k =
-    let k' = rw h at k in (
-      u ++ k'.0,
-      k'.1,
-      ap (λ z. u ++ z) k'.2 ∙ sym (append_assoc u k'.0 k'.1),
-      k'.3 ∙ ap Some (append_assoc held u k'.0),
-    )
 
 -- ---- parts
 
@@ -72,11 +53,6 @@ pub on_err : (r : Result (Unit {0}) MakeError) (lines : List (List ℕ)) (a b : 
     → OnErr r (AppendsPrefix (text_of lines) a b)
 on_err (Ok u) lines a b h = tt
 on_err (Err e) lines a b h = h
-
--- nothing of a part yet
-pub made_none : (a : Option (List ℕ)) → Appends [] a a
-made_none None = tt
-made_none (Some held) = ap Some (sym (append-nil held))
 
 -- ---- items of a part
 

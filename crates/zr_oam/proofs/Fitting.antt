@@ -36,11 +36,11 @@ pub bytes_by : (xs : List ℕ) → ((k : ℕ) → k < length xs → get_or xs k 
 bytes_by [] h = tt
 bytes_by (x ∷ xs) h = (h 0 (omega arith), bytes_by xs (λ k l. h (suc k) (omega (arith, l))))
 
-bytes_parts : (a b : List ℕ) → AreBytes (a ++ b) → AreBytes a × AreBytes b
+pub bytes_parts : (a b : List ℕ) → AreBytes (a ++ b) → AreBytes a × AreBytes b
 bytes_parts [] b h = (tt, h)
 bytes_parts (x ∷ a) b h = let rest = bytes_parts a b h.1 in ((h.0, rest.0), rest.1)
 
-parts : (bytes a b : List ℕ) → bytes ≡ a ++ b → AreBytes bytes → AreBytes a × AreBytes b
+pub parts : (bytes a b : List ℕ) → bytes ≡ a ++ b → AreBytes bytes → AreBytes a × AreBytes b
 parts bytes a b e h = bytes_parts a b (subst AreBytes e h)
 
 -- what is written of a value is no longer than the bytes

@@ -10,6 +10,7 @@ use Rattle.zr_pend_spec.specs.declared.branch.Branch.{Branch}
 use Rattle.zr_pend_spec.specs.Row.{RowState, has, is_asked_by, is_branch, is_done, is_last, is_of, without}
 use Rattle.zr_pend_spec.specs.Pending.{IsSound, all_finished, all_orphaned, are_distinct, asked, askers_differ, branch, branches, branches_on, count, dropped, final_to, finals, finals_of_drop, finished, is_pending}
 use Rattle.zr_pend_numbers.specs.Numbers.{Uses, is_in, is_used, rises, used_on}
+use Rattle.zr_pend_numbers.proofs.InUse.{same_used}
 use Rattle.zr_pend_rows.specs.Tied.{AreAsked, as_asker, as_branch}
 use Rattle.zr_pend_spec.proofs.Branches.{distinct_apart, distinct_behind}
 use Rattle.zr_pend_spec.proofs.Dropped.{in_order}
@@ -108,18 +109,12 @@ asked_begun uses news rows from bs e h c =
     swap false false = refl
 
 -- who has asked nothing is put in and taken out again
-same_used : (uses : Uses) (b c : Branch) → is_branch c b ≡ true → is_used uses c ≡ is_used uses b
-same_used uses b c h =
-    let e : b.link.0 ≡ c.link.0 = eqb-true _ _ (and_left _ _ h) in
-    let f : b.number ≡ c.number = eqb-true _ _ (and_right _ _ h) in
-    ap (λ l. is_in c.number (used_on uses l)) (sym e) ∙ ap (λ n. is_in n (used_on uses b.link.0)) (sym f)
-
 pub taken_back : (uses with back : Uses) (b : Branch) → is_used uses b ≡ false → ((c : Branch) → is_used with c ≡ (is_branch c b || is_used uses c)) → ((c : Branch) → is_used back c ≡ (not (is_branch c b) && is_used with c))
     → (c : Branch) → is_used back c ≡ is_used uses c
 taken_back uses with back b fresh put take c = take c ∙ ap (λ t. not (is_branch c b) && t) (put c) ∙ by (is_branch c b) refl
   where
     by : (t : Bool) → is_branch c b ≡ t → (not t && (t || is_used uses c)) ≡ is_used uses c
-    by true e = sym (same_used uses b c e ∙ fresh)
+    by true e = sym (sym (same_used uses b c e) ∙ fresh)
     by false e = refl
 
 -- ---- a link goes down

@@ -17,6 +17,7 @@ use Rattle.zr_pend_spec.proofs.Parts.{and_left, and_right, left_false, right_fal
 use Rattle.zr_pend_spec.proofs.Dropped.{gone, in_order}
 use Rattle.zr_pend_spec.proofs.Free.{free_is_least, pending_is_in}
 use Rattle.zr_pend_spec.proofs.Sound.{any_branch, finished_branches}
+use Rattle.zr_lists.proofs.Truths.{or_swap}
 
 -- ---- what the calls make of them
 
@@ -130,14 +131,9 @@ placed_in : (m : ℕ) (ms : List ℕ) (n : ℕ) → is_in m (placed ms n) ≡ (n
 placed_in m [] n = refl
 placed_in m (k ∷ ks) n = by (nat_le n k) (placed_in m ks n)
   where
-    swap : (a b c : Bool) → (a || (b || c)) ≡ (b || (a || c))
-    swap true true c = refl
-    swap true false c = refl
-    swap false b c = refl
-
     by : (t : Bool) → is_in m (placed ks n) ≡ (n == m || is_in m ks) → is_in m (cond t (n ∷ k ∷ ks) (k ∷ placed ks n)) ≡ (n == m || (k == m || is_in m ks))
     by true ih = refl
-    by false ih = ap (λ z. k == m || z) ih ∙ swap (k == m) (n == m) (is_in m ks)
+    by false ih = ap (λ z. k == m || z) ih ∙ or_swap (k == m) (n == m) (is_in m ks)
 
 above_it : (n k : ℕ) → n ≤ k → (k ≡ n → ⊥) → n + 1 ≤ k
 above_it n k le apart = by (n == k) refl

@@ -5,6 +5,7 @@ use Rattle.std.specs.List.{AllByRecursion, find}
 use Rattle.zr_lists.proofs.Each.{All-append}
 use Rattle.std.proofs.lemmas.Bool.{and_from, and_parts}
 use Rattle.std.specs.Option.{option_and_then, option_map_or}
+use Rattle.std.proofs.Math.Bool.{and-true}
 use Rattle.zr_id.specs.declared.link.LinkNo.{LinkNo}
 use Rattle.zr_msg.specs.declared.event.Event.TheVariants.{From}
 use Rattle.zr_msg.specs.declared.msg.Msg.{Msg}
@@ -206,12 +207,8 @@ node_never_memory false x e = cc
 
 -- ---- one more entry that is allowed
 
-and_true : (b : Bool) → (b && true) ≡ b
-and_true true = refl
-and_true false = refl
-
 allowed_snoc : (policy : PolicyState) (t : Tables) (h : List Entry) (e : Entry) → are_allowed_from policy t h ≡ true → is_allowed policy (replay_from t h).hub.node e.event ≡ true → are_allowed_from policy t (h ++ e ∷ []) ≡ true
-allowed_snoc policy t [] e a b = and_true (is_allowed policy t.hub.node e.event) ∙ b
+allowed_snoc policy t [] e a b = and-true (is_allowed policy t.hub.node e.event) ∙ b
 allowed_snoc policy t (x ∷ h) e a b =
     let first = and_parts (is_allowed policy t.hub.node x.event) (are_allowed_from policy (advanced t x) h) a in
     and_from _ _ first.0 (allowed_snoc policy (advanced t x) h e first.1 b)

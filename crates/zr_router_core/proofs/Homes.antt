@@ -4,6 +4,7 @@ use Rattle.std.specs.List.{find}
 use Rattle.std.specs.Option.{option_map_or}
 use Rattle.std.specs.Ordering.{nat_cmp}
 use Rattle.std.proofs.lemmas.Bool.{true≢false, false≢true, eqb-true, false_from_ne_true}
+use Rattle.std.proofs.Math.Bool.{and-true}
 use Rattle.zr_lists.proofs.Numbers.{nat_eq_is}
 use Rattle.zr_lists.proofs.Filters.{find_filter_kept, find_filter_gone}
 use Rattle.zr_id.specs.declared.link.LinkNo.{LinkNo}
@@ -26,6 +27,7 @@ use Rattle.zr_node_spec.specs.Event.{AreLinks, IsFresh, MayCome}
 use Rattle.zr_node_spec.specs.State.{NodeState, new_link}
 use Rattle.zr_node_spec.specs.Table.{live, with_link, without_link, clients_noted, after}
 use Rattle.zr_node_spec.proofs.Links.{find_beside, parted_links}
+use Rattle.zr_node_spec.proofs.LinksStay.{links_from}
 use Rattle.zr_router_core.specs.Ready.{is_own_msg, is_own_on, is_gone}
 
 -- ---- the live interests of other links stay
@@ -60,10 +62,6 @@ other_left cs link k =
     by false = refl
 
 -- ---- links
-
-and_true : (b : Bool) → (b && true) ≡ b
-and_true true = refl
-and_true false = refl
 
 abbrev is_client : Option LinkPeer → Bool
 is_client o = option_map_or (λ l. not (is_router l.peer.role)) o false
@@ -169,8 +167,8 @@ from_else n link (Token id key) k h = refl
 from_else n link (Untoken id) k h = refl
 from_else n link (Able id key complete) k h = refl
 from_else n link (Unable id) k h = refl
-from_else n link (Interest id current future kinds key aggregate) k h = noted_else n link.0 id (live future (record { id = id; kinds = kinds; key = key; aggregate = aggregate })) k (sym (and_true (link.0 == k)) ∙ h)
-from_else n link (EndInterest id) k h = noted_else n link.0 id None k (sym (and_true (link.0 == k)) ∙ h)
+from_else n link (Interest id current future kinds key aggregate) k h = noted_else n link.0 id (live future (record { id = id; kinds = kinds; key = key; aggregate = aggregate })) k (sym (and-true (link.0 == k)) ∙ h)
+from_else n link (EndInterest id) k h = noted_else n link.0 id None k (sym (and-true (link.0 == k)) ∙ h)
 from_else n link (ToldSub id key interest) k h = refl
 from_else n link (ToldToken id key interest) k h = refl
 from_else n link (ToldAble id key complete interest) k h = refl
@@ -203,31 +201,6 @@ pub gone_away : (n : NodeState) (event : Event) (k : ℕ) → is_gone event k �
 gone_away n (Up link peer) k h = absurd (false≢true h)
 gone_away n (Down link) k h = without_itself n.links link.0 k h
 gone_away n (From link msg) k h = absurd (false≢true h)
-
--- and no other link that leads to none then did before
-links_from : (n : NodeState) (link : LinkNo) (msg : Msg) → (after n (From link msg)).links ≡ n.links
-links_from n link (Sub id key) = refl
-links_from n link (Unsub id) = refl
-links_from n link (Token id key) = refl
-links_from n link (Untoken id) = refl
-links_from n link (Able id key complete) = refl
-links_from n link (Unable id) = refl
-links_from n link (Interest id current future kinds key aggregate) = refl
-links_from n link (EndInterest id) = refl
-links_from n link (ToldSub id key interest) = refl
-links_from n link (ToldToken id key interest) = refl
-links_from n link (ToldAble id key complete interest) = refl
-links_from n link (ToldUnsub id) = refl
-links_from n link (ToldUntoken id) = refl
-links_from n link (ToldUnable id) = refl
-links_from n link (ToldEnd interest) = refl
-links_from n link (Push tree content) = refl
-links_from n link (Request tree id target content) = refl
-links_from n link (Response id content) = refl
-links_from n link (Final id extras) = refl
-links_from n link (State links) = refl
-links_from n link (Step source number added decl) = refl
-links_from n link (Snap source number decls) = refl
 
 pub away_before : (n : NodeState) (event : Event) (k : ℕ) → AreLinks n.base.me n.links → MayCome n event → leads_to_client (after n event).links k ≡ false → is_gone event k ≡ false → leads_to_client n.links k ≡ false
 away_before n (Up link peer) k links may away gone = by (link.0 == k) refl

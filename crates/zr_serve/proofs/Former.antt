@@ -4,10 +4,10 @@ use Rattle.rand_core.specs.Stream.{Stream}
 use Rattle.zr_access.specs.Rules.{PolicyState}
 use Rattle.zr_dial.specs.Dial.{DialState}
 use Rattle.zr_link_job.specs.declared.job.ServeJob.{ServeJob}
-use Rattle.zr_link_writer.proofs.Carrying.{appends_both, prefix_behind}
 use Rattle.zr_outside.specs.Told.{Appends, AppendsPrefix}
 use Rattle.zr_outside.specs.declared.host.Answer.{Answer}
 use Rattle.zr_outside.specs.declared.host.Call.{Call}
+use Rattle.zr_outside.proofs.Appending.{appends_both, prefix_behind}
 use Rattle.zr_port.specs.declared.entry.Entry.{Entry}
 use Rattle.zr_serve.specs.Former.{Hears, TellsUsed, CutsUsed, Uses, told_text}
 use Rattle.zr_serve.specs.Lines.{used_text}

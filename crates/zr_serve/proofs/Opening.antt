@@ -9,12 +9,12 @@ use Rattle.zr_link_job.proofs.Starting.{tells_none}
 use Rattle.zr_link_job.specs.Starts.{Tells}
 use Rattle.zr_link_job.specs.declared.job.ServeJob.{ServeJob}
 use Rattle.zr_link_job.specs.declared.job.ServeJob.TheVariants.{Inner}
-use Rattle.zr_link_writer.proofs.Carrying.{appends_none}
 use Rattle.zr_msg.specs.Peer.{PeerState}
 use Rattle.zr_msg.specs.declared.msg.Msg.{Msg}
 use Rattle.zr_outside.specs.Counts.{Rose}
 use Rattle.zr_outside.specs.Told.{Appends, AppendsPrefix}
 use Rattle.zr_outside.specs.declared.host.Call.{Call}
+use Rattle.zr_outside.proofs.Appending.{appends_none}
 use Rattle.zr_outside_crew.specs.Told.{with_last}
 use Rattle.zr_port.specs.Coming.{Answering, Sight}
 use Rattle.zr_port.specs.declared.entry.Entry.{Entry}

@@ -11,7 +11,7 @@ use Rattle.zr_outside.specs.declared.host.Answer.{Answer}
 use Rattle.zr_outside.specs.declared.host.Answer.TheVariants as answer
 use Rattle.zr_outside.specs.declared.host.Call.{Call}
 use Rattle.zr_outside.specs.declared.host.Call.TheVariants.{Listen, Dial, Accept}
-use Rattle.zr_link_writer.proofs.Carrying.{appends_none, appends_nothing_more, prefix_more, prefix_whole}
+use Rattle.zr_outside.proofs.Appending.{appends_none, appends_nothing_more, prefix_more, prefix_whole}
 use Rattle.zr_link_job.specs.Starts.{Starts}
 use Rattle.zr_link_job.specs.declared.job.ServeJob.{ServeJob}
 use Rattle.zr_link_job.specs.declared.job.Side.TheVariants.{Accepting, Dialling}

@@ -10,7 +10,7 @@ use Rattle.zr_outside.specs.Host as host
 use Rattle.zr_outside.specs.Told.{Appends, AppendsPrefix}
 use Rattle.zr_outside.specs.declared.host.Call.{Call}
 use Rattle.zr_outside.specs.declared.host.Call.TheVariants.{Listen}
-use Rattle.zr_link_writer.proofs.Carrying.{appends_none, prefix_whole}
+use Rattle.zr_outside.proofs.Appending.{appends_none, prefix_whole}
 use Rattle.zr_serve.specs.declared.end.ServeEnd.{ServeEnd}
 use Rattle.zr_serve.specs.declared.end.ServeEnd.TheVariants as e
 use Rattle.zr_link_job.specs.declared.job.ServeJob.{ServeJob}

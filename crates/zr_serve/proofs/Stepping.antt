@@ -5,7 +5,7 @@ use Rattle.std.specs.Prelude.{min}
 use Rattle.zr_outside.specs.Host as host
 use Rattle.zr_outside.specs.Told.{Appends, AppendsPrefix}
 use Rattle.zr_outside.specs.declared.host.Call.{Call}
-use Rattle.zr_link_writer.proofs.Carrying.{appends_none, appends_both, prefix_behind, prefix_whole}
+use Rattle.zr_outside.proofs.Appending.{appends_none, appends_both, prefix_behind, prefix_whole}
 use Rattle.zr_link_job.specs.Starts.{marked, unmarked, Tells, Starts}
 use Rattle.zr_link_job.specs.declared.job.ServeJob.{ServeJob}
 use Rattle.zr_link_job.proofs.Starting.{tells_none}

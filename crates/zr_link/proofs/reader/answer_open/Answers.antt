@@ -1,6 +1,6 @@
 -- The answer to OPEN is written behind what was answered before.
 use Rattle.std.proofs.Common.{◌∙◌, [], inl, inr, refl}
-use Rattle.zr_link_writer.proofs.Carrying.{prefix_none, prefix_more}
+use Rattle.zr_outside.proofs.Appending.{prefix_none, prefix_more}
 use Rattle.zr_link.proofs.reader.answer_open.Goals as goal
 
 pub returns-in_default-clause-part : goal.returns-in_default-clause-part

@@ -3,8 +3,8 @@ use Rattle.std.proofs.Common.{◌∙◌, ◌<◌, ap, Err, None, le_refl, le_tra
 use Rattle.std.proofs.lemmas.Bool.{false≢true}
 use Rattle.std.specs.Arc.{arc_value}
 use Rattle.zr_hist.specs.Words.{seen}
-use Rattle.zr_link_writer.proofs.Carrying.{appends_none}
 use Rattle.zr_outside.proofs.Counting.{rose_not}
+use Rattle.zr_outside.proofs.Appending.{appends_none}
 use Rattle.zr_serve.specs.Links.{links_of}
 use Rattle.zr_serve.specs.Unsaid.{end_of_unsaid}
 use Rattle.zr_serve.proofs.Former.{asked_on, cut_on, tells_still, stops_uses, stops_unfailed, still_heard, unsaid_by, unsaid_undone, unsaid_unfailed, unsaid_uses}

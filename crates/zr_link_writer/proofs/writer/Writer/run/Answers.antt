@@ -1,9 +1,9 @@
 use Rattle.std.proofs.Common.{rules, ◌≤◌, ◌++◌, ◌∙◌, sym, subst, refl, arith}
 use Rattle.zr_frame_batch.specs.Framing.{framed}
 use Rattle.zr_outside.specs.Told.{AppendsPrefix}
+use Rattle.zr_outside.proofs.Appending.{prefix_whole}
 use Rattle.zr_ring.specs.Taker.{taken}
 use Rattle.zr_link_writer.specs.Writing.{Carries, Goes}
-use Rattle.zr_link_writer.proofs.Carrying.{prefix_whole}
 use Rattle.zr_link_writer.proofs.Going.{goes_first, goes_parcel, goes_rest, stops_parcel, stops_rest, ends_whole, ends_part, turns_part}
 use Rattle.zr_link_writer.proofs.writer.Writer.run.Goals.{in-Ok, in-Err-finish, in-Parcel+in_default, in-Nothing+in_default-rest}
 use Rattle.zr_link_writer.proofs.writer.Writer.run.Goals as goal
