@@ -7,6 +7,7 @@ import itertools
 import os
 import pathlib
 import re
+import select
 import socket
 import subprocess
 import sys
@@ -22,6 +23,7 @@ Session, Ended, Reader, Sample, Answer, Told = pubsub.Session, pubsub.Ended, pub
 
 MOST_WAIT = 10  # seconds
 MOST_LATE = 60  # seconds between a line of the log and its reading
+MOST_TOLD = 65_536  # bytes of standard error that are read at a time
 MOST_PORTS = 5  # that are tried: another process may take one before the router listens
 MOST_AHEAD = 128  # samples that a publisher is ahead of the slowest subscriber: a ring has twice as many slots
 SILENCE = 0.3  # seconds for which nothing comes
@@ -136,6 +138,13 @@ class Router:
         if abs(time.time() - told) > MOST_LATE:
             raise Wrong(f"the log tells {found[1]}, not the time of now")
         return found[2], found[3]
+
+    def told_yet(self, seconds=SILENCE):
+        """What standard error has told, up to a silence of so long, of which `logged` has read no line: that may hold lines of which a select doesn't know."""
+        told = ""
+        while select.select([self.process.stderr], [], [], seconds)[0] and (part := os.read(self.process.stderr.fileno(), MOST_TOLD)):
+            told += part.decode()
+        return told
 
     def descriptors(self):
         return len(os.listdir(f"/proc/{self.process.pid}/fd"))

@@ -4,7 +4,6 @@ import ctypes
 import os
 import pathlib
 import resource
-import select
 import shutil
 import signal
 import socket
@@ -50,7 +49,7 @@ LOW_PORT = 1
 OWN_THREADS, MANY_THREADS = 4, 100  # of a router without links that has a log, and more than it needs here
 STEP = 13  # bytes from one place of a fault to the next
 PIDFD_GETFD = 438  # the system call that copies a descriptor of another process
-GIVEN_UP = 25  # seconds within which a write fails to a client that takes nothing
+GIVEN_UP = 30  # seconds within which a write fails to a client that takes nothing: two waits of 10 s, and some to fill its buffers
 FILLINGS, FILLING = 600, b"." * 60_000  # samples that are more than a ring and the buffers of sockets hold
 SCRIPT = HERE.parent / "examples" / "three_routers.script"
 
@@ -130,13 +129,13 @@ def a_write_of_the_writer():
         settle(stuck)
         for _ in range(FILLINGS):
             publisher.put("a", FILLING)
-        told, end = [], time.monotonic() + GIVEN_UP
-        while len(told) < 2 and time.monotonic() < end:
+        log, end = "", time.monotonic() + GIVEN_UP
+        while log.count("end, client 0a: ") < 2 and time.monotonic() < end:
             for client in (stuck, publisher):
-                client.keep_alive()
-            while select.select([router.process.stderr], [], [], 1)[0]:
-                told += [line for _, line in [router.logged()] if "end, client 0a" in line]
-        told = [line.split(": ", 1)[1] for line in told]
+                with contextlib.suppress(OSError):  # the link may just have ended
+                    client.keep_alive()
+            log += router.told_yet(1)
+        told = [line.split(": ", 1)[1] for line in log.splitlines() if "end, client 0a: " in line]
         must(told, ["writer end, client 0a: a write failed", "end, client 0a: the peer hung up"], "what is told of the link")
         clients_hear_each_other(router)
 

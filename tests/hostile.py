@@ -238,16 +238,16 @@ def steady_reader():
     """A client that reads 300 small samples a second isn't closed: their sender waits for it."""
     closed = []
     with Router("01") as router:
-        for size in (5, 1_000):
-            slow = small(router, ident="0a")
+        for ident, size in (("0a", 5), ("0b", 1_000)):
+            slow = small(router, ident=ident)
             slow.subscribe(f"a/{size}")
             settle(slow)
             with publishing(router, f"a/{size}", b"." * size, STEADY):
                 count = read_steadily(slow, time.monotonic() + STEADY)
-                if is_closed(router, "0a"):
+                if is_closed(router, ident):
                     closed.append(f"of {size} B after less than {count} samples")
             slow.link.close()
-            until(lambda: takes(router, "0a"), "the identifier can come again")
+            until(lambda: takes(router, ident), "the identifier can come again")
     must(closed, [], "the sessions that were closed though their clients read")
 
 
@@ -317,14 +317,16 @@ def crowded_across():
 
 def crowded_along():
     """A flood that may not be dropped goes over a second router and a narrow link behind it: that link stays up, and brings 1,000 samples a second at least."""
-    with Router("01") as first, Router("02", first) as second, throttled(second) as port, Router("03", port) as third:
+    with Router("01") as first, Router("02", first, options=["--log"]) as second, throttled(second) as port, Router("03", port) as third:
         subscriber, counts = third.client(lease=60), [0]
         subscriber.subscribe("crowd")
         settle_across(subscriber, first)
         with publishing(first, "crowd", b"." * 100, CROWDED):
             count_until(counts, 0, subscriber, CROWDED)
+        ends = [line for line in second.told_yet().splitlines() if "end, router 03: " in line]
         print(f"... {counts[0] / CROWDED:.0f} samples a second", flush=True)
         must(counts[0] >= EVENTS * CROWDED, True, f"{counts[0]} samples in {CROWDED} s are as many as must come")
+        must(ends, [], "what the log tells of an end of the narrow link")
         must(takes(second, "03"), False, "the narrow link has gone")
 
 
