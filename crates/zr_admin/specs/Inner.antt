@@ -11,6 +11,7 @@ use Rattle.zr_msg.specs.declared.msg.Msg.TheVariants.{Able}
 use Rattle.zr_msg.specs.declared.peer.Role.TheVariants.{Client}
 use Rattle.zr_port.specs.Adding.{IsAdmitted}
 use Rattle.zr_port.specs.Coming.{Answering, Sight, AddsOne, Looks, Delivered, Through}
+use Rattle.zr_port.specs.Ring.{IsRingOf}
 use Rattle.zr_port.specs.declared.entry.Entry.{Entry}
 use Rattle.zr_port.specs.declared.error.DeliverError.{DeliverError}
 use Rattle.zr_port.specs.declared.error.DeliverError.TheVariants as deliver
@@ -18,6 +19,7 @@ use Rattle.zr_port.specs.declared.error.DownError.{DownError}
 use Rattle.zr_port.specs.declared.error.DownError.TheVariants as down
 use Rattle.zr_port.specs.declared.error.UpError.{UpError}
 use Rattle.zr_port.specs.declared.error.UpError.TheVariants as up
+use Rattle.zr_ring.specs.declared.name.RingName.{RingName}
 use Rattle.zr_ring.specs.declared.parcel.Note.{Ghosts}
 use Rattle.zr_ring.specs.declared.parcel.Parcel.{Parcel}
 use Rattle.zr_ring.specs.declared.parcel.Item.{Item}
@@ -81,6 +83,11 @@ pub record IsOpened (refuses_up : List Entry → PeerState → UpError → Type 
   pub up : AddsOne (Up link (inner_peer word)) (Some inner_outbox) None old mid
   pub admitted : IsAdmitted (refuses_up up.before (inner_peer word))
   pub able : Through link refuses_message (Delivered (queryable id) ∷ []) mid new
+
+-- the name is that of the ring of the link that came up
+abbrev pub HasRing : List ℕ → ℕ → LinkNo → RingName → Sight → Type 0
+HasRing router word link name old =
+    (mid : Sight) × AddsOne (Up link (inner_peer word)) (Some inner_outbox) None old mid × IsRingOf router link mid.seen name
 
 -- ---- steps
 

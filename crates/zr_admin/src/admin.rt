@@ -6,13 +6,13 @@ ghost use Rattle.std.specs.List.{AllByRecursion};
 ghost use Rattle.zr_hist.specs.Words.{pass_name, IsSamePass, seen};
 ghost use Rattle.zr_msg.specs.declared.msg.Msg.TheVariants.{Able};
 ghost use Rattle.zr_port.specs.Coming.{Delivered, Looks, Through, sight};
-ghost use Rattle.zr_ring.specs.Taker.{taken, take_calls, IsSameTaker};
+ghost use Rattle.zr_ring.specs.Taker.{taken, taker_name, take_calls, IsSameTaker};
 ghost use Rattle.zr_wire.specs.Writing.{IsSpelled};
 ghost use Rattle.zr_glance.specs.Pages.{pages};
 ghost use Rattle.zr_admin.specs.Answers.{all_answers, count_replies};
 ghost use Rattle.zr_admin.specs.Asked.{asked};
 ghost use Rattle.zr_admin.specs.Hearing.{heard};
-ghost use Rattle.zr_admin.specs.Inner.{AllSteps, AnswersAll, ComesTo, Hears, IsOpened, IsUndeclared, IsUnopened, Leaves, Steps, end_by, inner_at};
+ghost use Rattle.zr_admin.specs.Inner.{AllSteps, AnswersAll, ComesTo, HasRing, Hears, IsOpened, IsUndeclared, IsUnopened, Leaves, Steps, end_by, inner_at};
 ghost use Rattle.zr_admin.specs.declared.error.AdminError.{AdminError};
 ghost use Rattle.zr_admin.specs.declared.error.Stepped.{Stepped};
 
@@ -65,6 +65,7 @@ impl<P: Glancing + Drop> Admin<P> {
         requires { pass_name pass ≡ P.history (arc_value port) }
         ensures opened { IfOk result (λ a. IsOpened (λ h p e. P.refuses_up (arc_value port) h p e) (λ h m e. P.refuses_message (arc_value port) h a.link m e) id word a.link (sight pass) (sight a.pass)) }
         ensures fresh { IfOk result (λ a. (taken a.taker ≡ []) × (take_calls a.taker ≡ 0) × (a.hearing ≡ []) × (a.id ≡ id) × (arc_value a.port ≡ arc_value port)) }
+        ensures ring { IfOk result (λ a. HasRing (P.router (arc_value port)) word a.link (taker_name a.taker) (sight pass)) }
         ensures same { IfOk result (λ a. IsSamePass pass a.pass) }
         ensures unopened { IfErr result (λ e. IsUnopened (λ h p x. P.refuses_up (arc_value port) h p x) (λ h l m x. P.refuses_message (arc_value port) h l m x) (λ h l x. P.refuses_down (arc_value port) h l x) (P.answers_down (arc_value port)) id word e.0 (sight pass) (sight e.1)) }
         ensures back { IfErr result (λ e. IsSamePass pass e.1) }
@@ -144,6 +145,7 @@ fn enter<P: Port>(
     ensures same { IsSamePass pass.old pass.new }
     ensures opened { IfOk result (λ r. IsOpened (λ h p e. P.refuses_up port.now h p e) (λ h m e. P.refuses_message port.now h r.0 m e) id.now word r.0 (sight pass.old) (sight pass.new)) }
     ensures fresh { IfOk result (λ r. (taken r.1 ≡ []) × (take_calls r.1 ≡ 0)) }
+    ensures ring { IfOk result (λ r. HasRing (P.router port.now) word r.0 (taker_name r.1) (sight pass.old)) }
     ensures unopened { IfErr result (λ e. IsUnopened (λ h p x. P.refuses_up port.now h p x) (λ h l m x. P.refuses_message port.now h l m x) (λ h l x. P.refuses_down port.now h l x) (P.answers_down port.now) id.now word e (sight pass.old) (sight pass.new)) }
 {
     // what may fail comes first, so that no link is left behind

@@ -24,4 +24,11 @@ impl<E> Kept<E> {
     {
         self.count == u64::MAX
     }
+
+    /// How many entries the list has.
+    pub fn count(&self) -> u64
+        ensures { result ≡ length (list_of self.now) }
+    {
+        self.count
+    }
 }

@@ -10,6 +10,7 @@ ghost use Rattle.zr_msg.specs.declared.msg.Msg.{Msg};
 ghost use Rattle.zr_hist.specs.Words.{pass_name, IsSamePass, seen, mine};
 ghost use Rattle.zr_outside_crew.specs.Crew.{crew_faults, crew_told};
 ghost use Rattle.zr_outside_crew.specs.Told.{with_last};
+ghost use Rattle.zr_ring.specs.Taker.{taker_name};
 ghost use Rattle.zr_session.specs.declared.fate.Fate.TheVariants as fates;
 ghost use Rattle.zr_session.specs.Session.{is_running, with_confirmed, owed_bytes};
 ghost use Rattle.zr_wire.specs.Writing.{IsSpelled};
@@ -304,6 +305,7 @@ fn begin<
 ) -> Result<(), (LinkEnd, K)>
 where
     P::Note: Send + 'static,
+    requires ring { (taker_name taker).link ≡ link }
     ensures early { IfErr result (λ e. IsEarly e.0) }
     ensures same { OnOk result (intake.new.session ≡ with_confirmed intake.old.session) }
     ensures handed { OnOk result (HandsOn (λ k. K.held k) (λ k. K.faults k) (intake.old.fed.bytes.items ++ owed_bytes intake.old.session) out.sink) }

@@ -10,7 +10,7 @@ ghost use Rattle.zr_msg.specs.declared.msg.Msg.{Msg};
 ghost use Rattle.zr_msg.specs.declared.event.Event.TheVariants as event;
 ghost use Rattle.zr_hist.specs.Rule.{longer};
 ghost use Rattle.zr_hist.specs.Words.{pass_name, IsSamePass, seen, mine};
-ghost use Rattle.zr_ring.specs.Taker.{taken, take_calls};
+ghost use Rattle.zr_ring.specs.Taker.{taken, taker_name, take_calls};
 ghost use Rattle.zr_wire.specs.Writing.{IsSpelled};
 ghost use Rattle.zr_access.specs.Rules.{PolicyState};
 ghost use Rattle.zr_port.specs.declared.entry.Entry.{Entry};
@@ -19,6 +19,7 @@ ghost use Rattle.zr_port.specs.declared.error.DeliverError.{DeliverError};
 ghost use Rattle.zr_port.specs.declared.error.DownError.{DownError};
 ghost use Rattle.zr_port.specs.Adding.{Adds, IsEntryOf, IsLeastFree, IsAdmitted};
 ghost use Rattle.zr_port.specs.Coming.{ComesUpTo, Sight, StopsAt, sight};
+ghost use Rattle.zr_port.specs.Ring.{IsRingOf};
 
 use crate::entry::Entry;
 use crate::error::{DeliverError, DownError, UpError};
@@ -34,6 +35,9 @@ use zr_ring::{Note, Taker};
 pub trait Port {
     /// What vouches for the parcels that the takers take.
     type Note: Note + Drop;
+
+    // which router it is
+    ghost router: { Self → List ℕ };
 
     // which history its entries stand in
     ghost history: { Self → TableId };
@@ -58,7 +62,8 @@ pub trait Port {
     // by such a call alone
     ghost answers_down: { Self → LinkNo → Option ℕ → Sight → Sight → Result (Unit {0}) DownError → Type 0 } = { λ _ _ _ _ _ _. Unit {0} };
 
-    /// A session with a peer has opened: its link comes up under the least number that isn't up, and what is queued for it comes to the taker.
+    /// A session with a peer has opened: its link comes up under the least number that isn't up, and what is queued for it comes to the taker, which is
+    /// that of its own ring.
     fn up(
         &self,
         pass: &mut Pass<Entry>,
@@ -72,6 +77,7 @@ pub trait Port {
         ensures added { IfOk result (λ r. Adds pass.old pass.new (λ before e. IsEntryOf (event.Up r.0 peer) (Some outbox) None e × IsLeastFree (is_up self.now before) r.0 × IsAdmitted (refuses_up self.now before peer))) }
         ensures link { IfOk result (λ r. is_up self.now (seen pass.new) r.0 ≡ true) }
         ensures taker { IfOk result (λ r. (taken r.1 ≡ []) × (take_calls r.1 ≡ 0)) }
+        ensures ring { IfOk result (λ r. IsRingOf (router self.now) r.0 (seen pass.new) (taker_name r.1)) }
         ensures refused { IfErr result (λ e. e ≢ UpError.NoMemory → refuses_up self.now (seen pass.new) peer e) }
         ensures unchanged { OnErr result (mine pass.new ≡ mine pass.old) };
 

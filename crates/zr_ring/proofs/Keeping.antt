@@ -11,6 +11,7 @@ use lib.ListN.{get_elem?, length-map, length-replicate}
 use Rattle.std.specs.Prelude.{Option, Some, None}
 use Rattle.atomic_table.specs.Table.{State, Me, Act, step, keeps, takes, gives, chain, rest, put_back, carried_after, stepped, Allows, Splits, Joins, opening}
 use Rattle.atomic_table.proofs.Lists.{at_set}
+use Rattle.zr_ring.specs.declared.name.RingName.{RingName}
 use Rattle.zr_ring.specs.declared.rule.EndView.{EndView}
 use Rattle.zr_ring.specs.declared.rule.View.{View}
 use Rattle.zr_ring.specs.Rule.{SeatState, Progress, AreSlots, Fits, IsRing, one_if, end_view, no_view, view, giver_view, taker_view, loaded_taken, began, gave, gave_last, saw_given, took, looked, loaded_given_beside, loaded_taken_beside}
@@ -24,13 +25,13 @@ Whole X = State (Option X) (View X)
 abbrev Homes : Type 0 → Type 0
 Homes X = List (maybe.Option (Option X))
 
-module _ {X : Type 0} (place : X → ℕ) where
+module _ {X : Type 0} (stands : RingName → ℕ → X → Type 0) where
   -- what the giver knows, and what the taker knows
   abbrev Gives : Progress X → ℕ → EndView X → Type 0
-  Gives z id h = (id ≡ z.giver) × (h.list ≡ z.given) × (h.known ≤ z.taken) × (h.holds ≡ z.giver_holds)
+  Gives z id h = (id ≡ z.giver) × (h.list ≡ z.given) × (h.known ≤ z.taken) × (h.holds ≡ z.giver_holds) × (h.name ≡ z.name)
 
   abbrev Takes : Progress X → ℕ → EndView X → Type 0
-  Takes z id h = (id ≡ z.taker) × (h.list ≡ take (z.taken + one_if z.taker_holds) z.given) × (h.known ≤ length z.given) × (h.holds ≡ z.taker_holds)
+  Takes z id h = (id ≡ z.taker) × (h.list ≡ take (z.taken + one_if z.taker_holds) z.given) × (h.known ≤ length z.given) × (h.holds ≡ z.taker_holds) × (h.name ≡ z.name)
 
   giver_only : (z : Progress X) (id : ℕ) (h : EndView X) → Gives z id h → Fits z id (giver_view h)
   giver_only z id h g = record { gives = λ _. g; takes = λ e. absurd (cc e) }
@@ -42,7 +43,7 @@ module _ {X : Type 0} (place : X → ℕ) where
   fits_neither z id = record { gives = λ e. absurd (cc e); takes = λ e. absurd (cc e) }
 
   -- a step by which the progress stays
-  stays : (s : Whole X) (r : IsRing place s) (id i : ℕ) (me : SeatState X) (w : View X) → Fits r.progress id w → i < 48 → IsRing place (stepped s i (get_or s.words i 0) id me.1 w keeps)
+  stays : (s : Whole X) (r : IsRing stands s) (id i : ℕ) (me : SeatState X) (w : View X) → Fits r.progress id w → i < 48 → IsRing stands (stepped s i (get_or s.words i 0) id me.1 w keeps)
   stays s r id i me w fit small = record {
     progress = r.progress;
     wide = length-set s.words i (get_or s.words i 0) ∙ r.wide;
@@ -59,8 +60,8 @@ module _ {X : Type 0} (place : X → ℕ) where
       same_word (w ∷ ws) (suc i) zero = refl
       same_word (w ∷ ws) (suc i) (suc j) = same_word ws i j
 
-  pub loads_taken : (slots id : ℕ) (me : SeatState X) → me.0 ≡ giver_view (end_view me.0.giver.holds me.0.giver.list me.0.giver.known me.0.giver.loads)
-      → Allows (IsRing place) slots id me 32 (λ n. n) (loaded_taken (step slots 32 0 0 none) me)
+  pub loads_taken : (slots id : ℕ) (me : SeatState X) → me.0 ≡ giver_view (end_view me.0.giver.name me.0.giver.holds me.0.giver.list me.0.giver.known me.0.giver.loads)
+      → Allows (IsRing stands) slots id me 32 (λ n. n) (loaded_taken (step slots 32 0 0 none) me)
   loads_taken slots id me is s r deep at small =
       let h : EndView X = me.0.giver in
       let g = (r.each_seat id me.0 at).gives (ap (λ d. d.giver.is_here) is) in
@@ -69,32 +70,32 @@ module _ {X : Type 0} (place : X → ℕ) where
       let known : h.known ≤ r.progress.taken = g.2 in
       let behind = r.slots_are.behind in
       let long : length h.list ≡ length r.progress.given = ap length g.1 in
-      let h' : EndView X = end_view h.holds h.list n (h.loads + 1) in (
+      let h' : EndView X = end_view h.name h.holds h.list n (h.loads + 1) in (
         giver_view h',
         keeps,
         tt,
-        stays s r id 32 me (giver_view h') (giver_only r.progress id h' (g.0, g.1, (let b : n ≤ r.progress.taken = omega arith in b), g.3)) (omega arith),
+        stays s r id 32 me (giver_view h') (giver_only r.progress id h' (g.0, g.1, (let b : n ≤ r.progress.taken = omega arith in b), g.3, g.4)) (omega arith),
         (refl, refl, (let b : h.known ≤ n = omega arith in b), (let b : n ≤ length h.list = omega arith in b)),
       )
 
-  pub looks : (slots id : ℕ) (me : SeatState X) → me.0 ≡ taker_view (end_view me.0.taker.holds me.0.taker.list me.0.taker.known me.0.taker.loads)
-      → Allows (IsRing place) slots id me 16 (λ n. n) (looked (step slots 16 0 0 none) me)
+  pub looks : (slots id : ℕ) (me : SeatState X) → me.0 ≡ taker_view (end_view me.0.taker.name me.0.taker.holds me.0.taker.list me.0.taker.known me.0.taker.loads)
+      → Allows (IsRing stands) slots id me 16 (λ n. n) (looked (step slots 16 0 0 none) me)
   looks slots id me is s r deep at small =
       let h : EndView X = me.0.taker in
       let t = (r.each_seat id me.0 at).takes (ap (λ d. d.taker.is_here) is) in
       let n : ℕ = get_or s.words 16 0 in
       let found : n ≡ length r.progress.given = r.given_is in
       let known : h.known ≤ length r.progress.given = t.2 in
-      let h' : EndView X = end_view h.holds h.list n (h.loads + 1) in (
+      let h' : EndView X = end_view h.name h.holds h.list n (h.loads + 1) in (
         taker_view h',
         keeps,
         tt,
-        stays s r id 16 me (taker_view h') (taker_only r.progress id h' (t.0, t.1, (let b : n ≤ length r.progress.given = omega arith in b), t.3)) (omega arith),
+        stays s r id 16 me (taker_view h') (taker_only r.progress id h' (t.0, t.1, (let b : n ≤ length r.progress.given = omega arith in b), t.3, t.4)) (omega arith),
         (refl, refl, (let b : h.known ≤ n = omega arith in b)),
       )
 
   pub loads_given_beside : (slots id : ℕ) (me : SeatState X) → me.0.giver.is_here ≡ true → me.0.taker.is_here ≡ true
-      → Allows (IsRing place) slots id me 16 (λ n. n) (loaded_given_beside (step slots 16 0 0 none) me)
+      → Allows (IsRing stands) slots id me 16 (λ n. n) (loaded_given_beside (step slots 16 0 0 none) me)
   loads_given_beside slots id me gsits tsits s r deep at small =
       let fit = r.each_seat id me.0 at in
       let g = fit.gives gsits in
@@ -102,18 +103,18 @@ module _ {X : Type 0} (place : X → ℕ) where
       let h : EndView X = me.0.taker in
       let n : ℕ = get_or s.words 16 0 in
       let found : n ≡ length r.progress.given = r.given_is in
-      let h' : EndView X = end_view h.holds h.list n h.loads in
+      let h' : EndView X = end_view h.name h.holds h.list n h.loads in
       let w : View X = view me.0.giver h' in
       let k : ℕ = r.progress.taken + one_if r.progress.taker_holds in (
         w,
         keeps,
         tt,
-        stays s r id 16 me w (record { gives = λ _. g; takes = λ _. (t.0, t.1, (let b : n ≤ length r.progress.given = omega arith in b), t.3) }) (omega arith),
+        stays s r id 16 me w (record { gives = λ _. g; takes = λ _. (t.0, t.1, (let b : n ≤ length r.progress.given = omega arith in b), t.3, t.4) }) (omega arith),
         (refl, refl, found ∙ sym (ap length g.1), (drop k r.progress.given, ap (λ l. l ++ drop k r.progress.given) t.1 ∙ take-append-drop k r.progress.given ∙ sym g.1)),
       )
 
   pub loads_taken_beside : (slots id : ℕ) (me : SeatState X) → me.0.giver.is_here ≡ true → me.0.taker.is_here ≡ true
-      → Allows (IsRing place) slots id me 32 (λ n. n) (loaded_taken_beside (step slots 32 0 0 none) me)
+      → Allows (IsRing stands) slots id me 32 (λ n. n) (loaded_taken_beside (step slots 32 0 0 none) me)
   loads_taken_beside slots id me gsits tsits s r deep at small =
       let fit = r.each_seat id me.0 at in
       let g = fit.gives gsits in
@@ -122,13 +123,13 @@ module _ {X : Type 0} (place : X → ℕ) where
       let n : ℕ = get_or s.words 32 0 in
       let found : n ≡ r.progress.taken = r.taken_is in
       let known : h.known ≤ r.progress.taken = g.2 in
-      let h' : EndView X = end_view h.holds h.list n h.loads in
+      let h' : EndView X = end_view h.name h.holds h.list n h.loads in
       let w : View X = view h' me.0.taker in
       let k : ℕ = r.progress.taken + one_if r.progress.taker_holds in (
         w,
         keeps,
         tt,
-        stays s r id 32 me w (record { gives = λ _. (g.0, g.1, (let b : n ≤ r.progress.taken = omega arith in b), g.3); takes = λ _. t }) (omega arith),
+        stays s r id 32 me w (record { gives = λ _. (g.0, g.1, (let b : n ≤ r.progress.taken = omega arith in b), g.3, g.4); takes = λ _. t }) (omega arith),
         (
           refl,
           refl,
@@ -138,20 +139,20 @@ module _ {X : Type 0} (place : X → ℕ) where
       )
 
   -- the progress where the slots, and one seat, change
-  turns : (s : Whole X) (r : IsRing place s) (id : ℕ) (z : Progress X) (words : List ℕ) (homes : Homes X) (w : View X) → length words ≡ 48 → get_or words 16 0 ≡ length z.given → get_or words 32 0 ≡ z.taken
-      → length homes ≡ length s.homes → AreSlots place (length s.homes) z homes → Fits z id w → ((j : ℕ) (d : View X) → j ≢ id → get_elem? s.views j ≡ some d → Fits z j d)
-      → IsRing place record { words = words; homes = homes; views = set s.views id w }
+  turns : (s : Whole X) (r : IsRing stands s) (id : ℕ) (z : Progress X) (words : List ℕ) (homes : Homes X) (w : View X) → length words ≡ 48 → get_or words 16 0 ≡ length z.given → get_or words 32 0 ≡ z.taken
+      → length homes ≡ length s.homes → AreSlots stands (length s.homes) z homes → Fits z id w → ((j : ℕ) (d : View X) → j ≢ id → get_elem? s.views j ≡ some d → Fits z j d)
+      → IsRing stands record { words = words; homes = homes; views = set s.views id w }
   turns s r id z words homes w wide a b same slots_are fit others = record {
     progress = z;
     wide = wide;
     given_is = a;
     taken_is = b;
-    slots_are = subst (λ (c : ℕ). AreSlots place c z homes) (sym same) slots_are;
+    slots_are = subst (λ (c : ℕ). AreSlots stands c z homes) (sym same) slots_are;
     each_seat = seats_set (Fits z) s.views id w fit others;
   }
 
-  pub begins : (slots id : ℕ) (me : SeatState X) → me.0 ≡ giver_view (end_view false me.0.giver.list me.0.giver.known me.0.giver.loads) → me.1 ≡ [] → length me.0.giver.list < me.0.giver.known + slots
-      → Allows (IsRing place) slots id me 16 (λ n. n) (began (step slots 16 0 0 none) me)
+  pub begins : (slots id : ℕ) (me : SeatState X) → me.0 ≡ giver_view (end_view me.0.giver.name false me.0.giver.list me.0.giver.known me.0.giver.loads) → me.1 ≡ [] → length me.0.giver.list < me.0.giver.known + slots
+      → Allows (IsRing stands) slots id me 16 (λ n. n) (began (step slots 16 0 0 none) me)
   begins slots id me is bare near s r deep at small =
       let z = r.progress in
       let h : EndView X = me.0.giver in
@@ -164,7 +165,7 @@ module _ {X : Type 0} (place : X → ℕ) where
       let room : length z.given < z.taken + cap = omega arith in
       let i_is : i ≡ length h.list % slots = ap (λ (y : ℕ × ℕ). y.0 % y.1) (λ k. (sym long k, deep k)) in
       let z' : Progress X = record z { giver_holds = true } in
-      let h' : EndView X = end_view true h.list h.known h.loads in
+      let h' : EndView X = end_view h.name true h.list h.known h.loads in
       let n : ℕ = get_or s.words 16 0 in
       let w : View X = giver_view h' in
       let homes' : Homes X = set s.homes i none in (
@@ -172,8 +173,8 @@ module _ {X : Type 0} (place : X → ℕ) where
         takes i None,
         r.slots_are.empty (length z.given) (omega arith) room (λ f. absurd (cc (f, idle))),
         turns s r id z' (set s.words 16 n) homes' w (length-set s.words 16 n ∙ r.wide) (get_or-set_same s.words 16 n 0 (omega (arith, r.wide)) ∙ r.given_is)
-            (get_or-set_other s.words 16 32 n 0 (λ e. absurd (omega arith)) ∙ r.taken_is) (length-set s.homes i none) (giver_takes_slot place cap z s.homes r.slots_are idle room)
-            (giver_only z' id h' (g.0, g.1, g.2, refl))
+            (get_or-set_other s.words 16 32 n 0 (λ e. absurd (omega arith)) ∙ r.taken_is) (length-set s.homes i none) (giver_takes_slot stands cap z s.homes r.slots_are idle room)
+            (giver_only z' id h' (g.0, g.1, g.2, refl, g.4))
             (λ j d ne e. let f = r.each_seat j d e in record { gives = λ u. absurd (ne ((f.gives u).0 ∙ sym g.0)); takes = f.takes }),
         (refl, ap (λ l. (i, None) ∷ l) bare ∙ ap (λ (y : ℕ). (y, None) ∷ []) i_is),
       )
@@ -189,12 +190,12 @@ module _ {X : Type 0} (place : X → ℕ) where
   others_give z given giver_holds id j d x is ne low f = record {
     gives = λ u. absurd (ne ((f.gives u).0 ∙ sym is));
     takes = λ u. let t = f.takes u in let known : d.taker.known ≤ length z.given = t.2 in
-        (t.0, t.1 ∙ sym (take_front (z.taken + one_if z.taker_holds) z.given (x ∷ []) low), (let b : d.taker.known ≤ length (z.given ++ x ∷ []) = omega (arith, length-append z.given (x ∷ [])) in b), t.3);
+        (t.0, t.1 ∙ sym (take_front (z.taken + one_if z.taker_holds) z.given (x ∷ []) low), (let b : d.taker.known ≤ length (z.given ++ x ∷ []) = omega (arith, length-append z.given (x ∷ [])) in b), t.3, t.4);
   }
 
-  pub gives_one : (slots id : ℕ) (me : SeatState X) (k new : ℕ) (x : X) → me.0 ≡ giver_view (end_view true me.0.giver.list me.0.giver.known me.0.giver.loads) → me.1 ≡ (k, Some x) ∷ []
-      → k ≡ length me.0.giver.list % slots → new ≡ length me.0.giver.list + 1 → place x ≡ length me.0.giver.list → length me.0.giver.list + 1 < me.0.giver.known + slots
-      → Allows (IsRing place) slots id me 16 (λ _. new) (λ _. gave (step slots 16 new 0 none) me new)
+  pub gives_one : (slots id : ℕ) (me : SeatState X) (k new : ℕ) (x : X) → me.0 ≡ giver_view (end_view me.0.giver.name true me.0.giver.list me.0.giver.known me.0.giver.loads) → me.1 ≡ (k, Some x) ∷ []
+      → k ≡ length me.0.giver.list % slots → new ≡ length me.0.giver.list + 1 → stands me.0.giver.name (length me.0.giver.list) x → length me.0.giver.list + 1 < me.0.giver.known + slots
+      → Allows (IsRing stands) slots id me 16 (λ _. new) (λ _. gave (step slots 16 new 0 none) me new)
   gives_one slots id me k new x is carries k_is new_is at_place near s r deep at small =
       let z = r.progress in
       let h : EndView X = me.0.giver in
@@ -209,14 +210,14 @@ module _ {X : Type 0} (place : X → ℕ) where
       let i_is : i ≡ k = ap (λ (y : ℕ × ℕ). y.0 % y.1) (λ j. (sym long j, deep j)) ∙ sym k_is in
       let z₁ : Progress X = record z { given = z.given ++ x ∷ []; giver_holds = false } in
       let homes₁ : Homes X = set s.homes i (some (Some x)) in
-      let s₁ = giver_returns_slot place cap z s.homes x r.slots_are holds (at_place ∙ long) in
+      let s₁ = giver_returns_slot stands cap z s.homes x r.slots_are holds (subst (λ (u : RingName × ℕ). stands u.0 u.1 x) (λ j. (g.4 j, long j)) at_place) in
       let more : length (z.given ++ x ∷ []) ≡ length z.given + 1 = length-append z.given (x ∷ []) in
       let room : length (z.given ++ x ∷ []) < z.taken + cap = omega arith in
       let i₂ : ℕ = length (z.given ++ x ∷ []) % cap in
       let homes₂ : Homes X = set homes₁ i₂ none in
       let z₂ : Progress X = record z { given = z.given ++ x ∷ []; giver_holds = true } in
-      let s₂ = giver_takes_slot place cap z₁ homes₁ s₁ refl room in
-      let h' : EndView X = end_view true (h.list ++ x ∷ []) h.known h.loads in
+      let s₂ = giver_takes_slot stands cap z₁ homes₁ s₁ refl room in
+      let h' : EndView X = end_view h.name true (h.list ++ x ∷ []) h.known h.loads in
       let w : View X = giver_view h' in
       let act : Act (Option X) = chain gives (takes i₂ None) in
       let carried : me.1 ≡ (i, Some x) ∷ [] = carries ∙ ap (λ (y : ℕ). (y, Some x) ∷ []) (sym i_is) in
@@ -225,18 +226,18 @@ module _ {X : Type 0} (place : X → ℕ) where
         w,
         act,
         subst (λ c. Rattle.atomic_table.specs.Table.Valid s.homes c act) (sym carried) (tt, s₁.empty (length (z.given ++ x ∷ [])) (omega arith) room (λ f. absurd (cc f))),
-        subst (λ c. IsRing place (stepped s 16 new id c w act)) (sym carried)
+        subst (λ c. IsRing stands (stepped s 16 new id c w act)) (sym carried)
             (turns s r id z₂ (set s.words 16 new) homes₂ w (length-set s.words 16 new ∙ r.wide) (get_or-set_same s.words 16 new 0 (omega (arith, r.wide)) ∙ (omega arith))
             (get_or-set_other s.words 16 32 new 0 (λ e. absurd (omega arith)) ∙ r.taken_is) same s₂
-            (giver_only z₂ id h' (g.0, ap (λ l. l ++ x ∷ []) g.1, g.2, refl))
+            (giver_only z₂ id h' (g.0, ap (λ l. l ++ x ∷ []) g.1, g.2, refl, g.4))
             (λ j d ne e. others_give z z.given true id j d x g.0 ne low (r.each_seat j d e))),
         (λ k' x' e. let x_is : x ≡ x' = ap (item_or x) (sym carries ∙ e) in
-            (ap (λ (y : X). giver_view (end_view true (h.list ++ y ∷ []) h.known h.loads)) x_is, ap (λ c. (i₂, None) ∷ rest c) carried ∙ ap (λ (y : ℕ). (y, None) ∷ []) i₂_is)),
+            (ap (λ (y : X). giver_view (end_view h.name true (h.list ++ y ∷ []) h.known h.loads)) x_is, ap (λ c. (i₂, None) ∷ rest c) carried ∙ ap (λ (y : ℕ). (y, None) ∷ []) i₂_is)),
       )
 
-  pub gives_last : (slots id : ℕ) (me : SeatState X) (k new : ℕ) (x : X) → me.0 ≡ giver_view (end_view true me.0.giver.list me.0.giver.known me.0.giver.loads) → me.1 ≡ (k, Some x) ∷ []
-      → k ≡ length me.0.giver.list % slots → new ≡ length me.0.giver.list + 1 → place x ≡ length me.0.giver.list
-      → Allows (IsRing place) slots id me 16 (λ _. new) (λ _. gave_last (step slots 16 new 0 none) me new)
+  pub gives_last : (slots id : ℕ) (me : SeatState X) (k new : ℕ) (x : X) → me.0 ≡ giver_view (end_view me.0.giver.name true me.0.giver.list me.0.giver.known me.0.giver.loads) → me.1 ≡ (k, Some x) ∷ []
+      → k ≡ length me.0.giver.list % slots → new ≡ length me.0.giver.list + 1 → stands me.0.giver.name (length me.0.giver.list) x
+      → Allows (IsRing stands) slots id me 16 (λ _. new) (λ _. gave_last (step slots 16 new 0 none) me new)
   gives_last slots id me k new x is carries k_is new_is at_place s r deep at small =
       let z = r.progress in
       let h : EndView X = me.0.giver in
@@ -249,23 +250,23 @@ module _ {X : Type 0} (place : X → ℕ) where
       let i_is : i ≡ k = ap (λ (y : ℕ × ℕ). y.0 % y.1) (λ j. (sym long j, deep j)) ∙ sym k_is in
       let z₁ : Progress X = record z { given = z.given ++ x ∷ []; giver_holds = false } in
       let homes₁ : Homes X = set s.homes i (some (Some x)) in
-      let s₁ = giver_returns_slot place cap z s.homes x r.slots_are holds (at_place ∙ long) in
+      let s₁ = giver_returns_slot stands cap z s.homes x r.slots_are holds (subst (λ (u : RingName × ℕ). stands u.0 u.1 x) (λ j. (g.4 j, long j)) at_place) in
       let more : length (z.given ++ x ∷ []) ≡ length z.given + 1 = length-append z.given (x ∷ []) in
-      let h' : EndView X = end_view false (h.list ++ x ∷ []) h.known h.loads in
+      let h' : EndView X = end_view h.name false (h.list ++ x ∷ []) h.known h.loads in
       let w : View X = giver_view h' in
       let carried : me.1 ≡ (i, Some x) ∷ [] = carries ∙ ap (λ (y : ℕ). (y, Some x) ∷ []) (sym i_is) in (
         w,
         gives,
         tt,
-        subst (λ c. IsRing place (stepped s 16 new id c w gives)) (sym carried)
+        subst (λ c. IsRing stands (stepped s 16 new id c w gives)) (sym carried)
             (turns s r id z₁ (set s.words 16 new) homes₁ w (length-set s.words 16 new ∙ r.wide) (get_or-set_same s.words 16 new 0 (omega (arith, r.wide)) ∙ (omega arith))
             (get_or-set_other s.words 16 32 new 0 (λ e. absurd (omega arith)) ∙ r.taken_is) (length-set s.homes i (some (Some x))) s₁
-            (giver_only z₁ id h' (g.0, ap (λ l. l ++ x ∷ []) g.1, g.2, refl))
+            (giver_only z₁ id h' (g.0, ap (λ l. l ++ x ∷ []) g.1, g.2, refl, g.4))
             (λ j d ne e. others_give z z.given false id j d x g.0 ne low (r.each_seat j d e))),
-        (λ k' x' e. let x_is : x ≡ x' = ap (item_or x) (sym carries ∙ e) in (ap (λ (y : X). giver_view (end_view false (h.list ++ y ∷ []) h.known h.loads)) x_is, ap rest carried)),
+        (λ k' x' e. let x_is : x ≡ x' = ap (item_or x) (sym carries ∙ e) in (ap (λ (y : X). giver_view (end_view h.name false (h.list ++ y ∷ []) h.known h.loads)) x_is, ap rest carried)),
       )
 
-  pub sees_given : (slots id : ℕ) (me : SeatState X) → me.0 ≡ taker_view (end_view false me.0.taker.list me.0.taker.known me.0.taker.loads) → Allows (IsRing place) slots id me 16 (λ n. n) (saw_given place (step slots 16 0 0 none) me)
+  pub sees_given : (slots id : ℕ) (me : SeatState X) → me.0 ≡ taker_view (end_view me.0.taker.name false me.0.taker.list me.0.taker.known me.0.taker.loads) → Allows (IsRing stands) slots id me 16 (λ n. n) (saw_given stands (step slots 16 0 0 none) me)
   sees_given slots id me is s r deep at small =
       let z = r.progress in
       let h : EndView X = me.0.taker in
@@ -283,11 +284,11 @@ module _ {X : Type 0} (place : X → ℕ) where
       let b₂ : length h.list ≤ n = omega arith in
       let b₃ : n ≤ length z.given = omega arith in
       dite (ℕ_discrete n (length h.list))
-      (λ e. let h' : EndView X = end_view false h.list n (h.loads + 1) in (
+      (λ e. let h' : EndView X = end_view h.name false h.list n (h.loads + 1) in (
         taker_view h',
         keeps,
         tt,
-        stays s r id 16 me (taker_view h') (taker_only z id h' (t.0, t.1, b₃, sym idle)) (omega arith),
+        stays s r id 16 me (taker_view h') (taker_only z id h' (t.0, t.1, b₃, sym idle, t.4)) (omega arith),
         (b₁, b₂, (λ _. (refl, refl)), λ ne. absurd (ne e)),
       ))
       (λ ne. let some_item : z.taken < length z.given = omega arith in
@@ -295,7 +296,7 @@ module _ {X : Type 0} (place : X → ℕ) where
       let x : X = got.0 in
       let i : ℕ = z.taken % cap in
       let i_is : i ≡ length h.list % slots = ap (λ (y : ℕ × ℕ). y.0 % y.1) (λ k. (sym long k, deep k)) in
-      let h' : EndView X = end_view true (h.list ++ x ∷ []) n (h.loads + 1) in
+      let h' : EndView X = end_view h.name true (h.list ++ x ∷ []) n (h.loads + 1) in
       let w : View X = taker_view h' in
       let z' : Progress X = record z { taker_holds = true } in
       let homes' : Homes X = set s.homes i none in (
@@ -303,14 +304,14 @@ module _ {X : Type 0} (place : X → ℕ) where
         takes i (Some x),
         r.slots_are.full z.taken x (omega arith) (λ e. absurd (cc (e, idle))) got.1,
         turns s r id z' (set s.words 16 n) homes' w (length-set s.words 16 n ∙ r.wide) (get_or-set_same s.words 16 n 0 (omega (arith, r.wide)) ∙ found)
-            (get_or-set_other s.words 16 32 n 0 (λ e. absurd (omega arith)) ∙ r.taken_is) (length-set s.homes i none) (taker_takes_slot place cap z s.homes r.slots_are idle some_item)
-            (taker_only z' id h' (t.0, ap (λ l. l ++ x ∷ []) list_is ∙ sym (take_one_more z.given z.taken x got.1) ∙ ap (λ (b : ℕ). take b z.given) (let b : suc z.taken ≡ z.taken + 1 = omega arith in b), b₃, refl))
+            (get_or-set_other s.words 16 32 n 0 (λ e. absurd (omega arith)) ∙ r.taken_is) (length-set s.homes i none) (taker_takes_slot stands cap z s.homes r.slots_are idle some_item)
+            (taker_only z' id h' (t.0, ap (λ l. l ++ x ∷ []) list_is ∙ sym (take_one_more z.given z.taken x got.1) ∙ ap (λ (b : ℕ). take b z.given) (let b : suc z.taken ≡ z.taken + 1 = omega arith in b), b₃, refl, t.4))
             (λ j d other e. let f = r.each_seat j d e in record { gives = f.gives; takes = λ u. absurd (other ((f.takes u).0 ∙ sym t.0)) }),
-        (b₁, b₂, (λ e. absurd (ne e)), λ _. (x, r.slots_are.placed z.taken x got.1 ∙ sym long, refl, ap (λ (y : ℕ). (y, Some x) ∷ me.1) i_is)),
+        (b₁, b₂, (λ e. absurd (ne e)), λ _. (x, subst (λ (u : RingName × ℕ). stands u.0 u.1 x) (λ k. (sym t.4 k, sym long k)) (r.slots_are.placed z.taken x got.1), refl, ap (λ (y : ℕ). (y, Some x) ∷ me.1) i_is)),
       ))
 
-  pub takes_one : (slots id : ℕ) (me : SeatState X) (k count new : ℕ) → me.0 ≡ taker_view (end_view true me.0.taker.list me.0.taker.known me.0.taker.loads) → me.1 ≡ (k, None) ∷ []
-      → length me.0.taker.list ≡ count + 1 → k ≡ count % slots → new ≡ count + 1 → Allows (IsRing place) slots id me 32 (λ _. new) (λ _. took (step slots 32 new 0 none) me new)
+  pub takes_one : (slots id : ℕ) (me : SeatState X) (k count new : ℕ) → me.0 ≡ taker_view (end_view me.0.taker.name true me.0.taker.list me.0.taker.known me.0.taker.loads) → me.1 ≡ (k, None) ∷ []
+      → length me.0.taker.list ≡ count + 1 → k ≡ count % slots → new ≡ count + 1 → Allows (IsRing stands) slots id me 32 (λ _. new) (λ _. took (step slots 32 new 0 none) me new)
   takes_one slots id me k count new is carries size k_is new_is s r deep at small =
       let z = r.progress in
       let h : EndView X = me.0.taker in
@@ -326,18 +327,18 @@ module _ {X : Type 0} (place : X → ℕ) where
       let i_is : i ≡ k = ap (λ (y : ℕ × ℕ). y.0 % y.1) (λ j. (same j, deep j)) ∙ sym k_is in
       let carried : me.1 ≡ (i, None) ∷ [] = carries ∙ ap (λ (y : ℕ). (y, None) ∷ []) (sym i_is) in
       let z' : Progress X = record z { taker_holds = false; taken = z.taken + 1 } in
-      let h' : EndView X = end_view false h.list h.known h.loads in
+      let h' : EndView X = end_view h.name false h.list h.known h.loads in
       let w : View X = taker_view h' in
       let homes' : Homes X = set s.homes i (some None) in (
         w,
         gives,
         tt,
-        subst (λ c. IsRing place (stepped s 32 new id c w gives)) (sym carried)
+        subst (λ c. IsRing stands (stepped s 32 new id c w gives)) (sym carried)
             (turns s r id z' (set s.words 32 new) homes' w (length-set s.words 32 new ∙ r.wide) (get_or-set_other s.words 32 16 new 0 (λ e. absurd (omega arith)) ∙ r.given_is)
-            (get_or-set_same s.words 32 new 0 (omega (arith, r.wide)) ∙ (omega arith)) (length-set s.homes i (some None)) (taker_returns_slot place cap z s.homes r.slots_are holds)
-            (taker_only z' id h' (t.0, t.1 ∙ ap (λ (b : ℕ). take b z.given) (let b : z.taken + one_if z.taker_holds ≡ z.taken + 1 + 0 = omega arith in b), t.2, refl))
+            (get_or-set_same s.words 32 new 0 (omega (arith, r.wide)) ∙ (omega arith)) (length-set s.homes i (some None)) (taker_returns_slot stands cap z s.homes r.slots_are holds)
+            (taker_only z' id h' (t.0, t.1 ∙ ap (λ (b : ℕ). take b z.given) (let b : z.taken + one_if z.taker_holds ≡ z.taken + 1 + 0 = omega arith in b), t.2, refl, t.4))
             (λ j d ne e. let f = r.each_seat j d e in record {
-              gives = λ u. let v = f.gives u in let k : d.giver.known ≤ z.taken = v.2 in (v.0, v.1, (let b : d.giver.known ≤ z.taken + 1 = omega arith in b), v.3);
+              gives = λ u. let v = f.gives u in let k : d.giver.known ≤ z.taken = v.2 in (v.0, v.1, (let b : d.giver.known ≤ z.taken + 1 = omega arith in b), v.3, v.4);
               takes = λ u. absurd (ne ((f.takes u).0 ∙ sym t.0));
             })),
         (refl, ap rest carried),
@@ -347,7 +348,7 @@ module _ {X : Type 0} (place : X → ℕ) where
   not_giver : (z : Progress X) (to id j : ℕ) (d : View X) → id ≡ z.giver → j ≢ id → Fits z j d → Fits record z { giver = to } j d
   not_giver z to id j d is ne f = record { gives = λ u. absurd (ne ((f.gives u).0 ∙ sym is)); takes = f.takes }
 
-  pub splits_giver : (id : ℕ) (v : View X) → v.giver.is_here ≡ true → Splits (IsRing place) id v (view no_view v.taker) (view v.giver no_view)
+  pub splits_giver : (id : ℕ) (v : View X) → v.giver.is_here ≡ true → Splits (IsRing stands) id v (view no_view v.taker) (view v.giver no_view)
   splits_giver id v is_here s r at =
       let z = r.progress in
       let fit = r.each_seat id v at in
@@ -360,11 +361,11 @@ module _ {X : Type 0} (place : X → ℕ) where
         given_is = r.given_is;
         taken_is = r.taken_is;
         slots_are = record { some_slot = r.slots_are.some_slot; deep = r.slots_are.deep; behind = r.slots_are.behind; within = r.slots_are.within; room = r.slots_are.room; full = r.slots_are.full; empty = r.slots_are.empty; placed = r.slots_are.placed };
-        each_seat = seats_more (Fits z') views (giver_view v.giver) (giver_only z' (length views) v.giver (refl, g.1, g.2, g.3))
+        each_seat = seats_more (Fits z') views (giver_view v.giver) (giver_only z' (length views) v.giver (refl, g.1, g.2, g.3, g.4))
             (seats_set (Fits z') s.views id left (record { gives = λ e. absurd (cc e); takes = fit.takes }) (λ j d ne e. not_giver z (length views) id j d g.0 ne (r.each_seat j d e)));
       }
 
-  pub joins_giver : (id : ℕ) (v : View X) (other : ℕ) (w : View X) → w.giver.is_here ≡ true → Joins (IsRing place) id v other w (view w.giver v.taker) (view no_view no_view)
+  pub joins_giver : (id : ℕ) (v : View X) (other : ℕ) (w : View X) → w.giver.is_here ≡ true → Joins (IsRing stands) id v other w (view w.giver v.taker) (view no_view no_view)
   joins_giver id v other w is_here s r at ne at' =
       let z = r.progress in
       let both : View X = view w.giver v.taker in
@@ -379,59 +380,59 @@ module _ {X : Type 0} (place : X → ℕ) where
         slots_are = record { some_slot = r.slots_are.some_slot; deep = r.slots_are.deep; behind = r.slots_are.behind; within = r.slots_are.within; room = r.slots_are.room; full = r.slots_are.full; empty = r.slots_are.empty; placed = r.slots_are.placed };
         each_seat = seats_set (Fits z') (set s.views id both) other (view no_view no_view) (fits_neither z' other)
             (λ j d apart e. ⊎_elim
-            (λ h. subst (λ (y : ℕ × View X). Fits z' y.0 y.1) (λ i. (sym h.0 i, h.1 i)) (record { gives = λ _. (refl, g.1, g.2, g.3); takes = fit.takes }))
+            (λ h. subst (λ (y : ℕ × View X). Fits z' y.0 y.1) (λ i. (sym h.0 i, h.1 i)) (record { gives = λ _. (refl, g.1, g.2, g.3, g.4); takes = fit.takes }))
             (λ h. not_giver z id other j d g.0 apart (r.each_seat j d h.1)) (at_set s.views id j both d e));
       }
 
 module _ {X : Type 0} where
-  pub is_giver_view : (d : View X) (holds : Bool) (list : List X) (known loads : ℕ) → d ≡ giver_view (end_view holds list known loads) → d ≡ giver_view (end_view d.giver.holds d.giver.list d.giver.known d.giver.loads)
-  is_giver_view d holds list known loads e = e ∙ sym (ap (λ u. giver_view (end_view u.giver.holds u.giver.list u.giver.known u.giver.loads)) e)
+  pub is_giver_view : {name : RingName} (d : View X) (holds : Bool) (list : List X) (known loads : ℕ) → d ≡ giver_view (end_view name holds list known loads) → d ≡ giver_view (end_view d.giver.name d.giver.holds d.giver.list d.giver.known d.giver.loads)
+  is_giver_view d holds list known loads e = e ∙ sym (ap (λ u. giver_view (end_view u.giver.name u.giver.holds u.giver.list u.giver.known u.giver.loads)) e)
 
-  pub is_taker_view : (d : View X) (holds : Bool) (list : List X) (known loads : ℕ) → d ≡ taker_view (end_view holds list known loads) → d ≡ taker_view (end_view d.taker.holds d.taker.list d.taker.known d.taker.loads)
-  is_taker_view d holds list known loads e = e ∙ sym (ap (λ u. taker_view (end_view u.taker.holds u.taker.list u.taker.known u.taker.loads)) e)
+  pub is_taker_view : {name : RingName} (d : View X) (holds : Bool) (list : List X) (known loads : ℕ) → d ≡ taker_view (end_view name holds list known loads) → d ≡ taker_view (end_view d.taker.name d.taker.holds d.taker.list d.taker.known d.taker.loads)
+  is_taker_view d holds list known loads e = e ∙ sym (ap (λ u. taker_view (end_view u.taker.name u.taker.holds u.taker.list u.taker.known u.taker.loads)) e)
 
-  pub holds_now : (d : View X) (holds : Bool) → d ≡ giver_view (end_view holds d.giver.list d.giver.known d.giver.loads) → holds ≡ true → d ≡ giver_view (end_view true d.giver.list d.giver.known d.giver.loads)
-  holds_now d holds e is = e ∙ ap (λ b. giver_view (end_view b d.giver.list d.giver.known d.giver.loads)) is
+  pub holds_now : (d : View X) (holds : Bool) → d ≡ giver_view (end_view d.giver.name holds d.giver.list d.giver.known d.giver.loads) → holds ≡ true → d ≡ giver_view (end_view d.giver.name true d.giver.list d.giver.known d.giver.loads)
+  holds_now d holds e is = e ∙ ap (λ b. giver_view (end_view d.giver.name b d.giver.list d.giver.known d.giver.loads)) is
 
-  pub still_holds : (d : View X) (holds o : Bool) (list : List X) (known loads : ℕ) → d ≡ giver_view (end_view o list known loads) → holds ≡ o → d ≡ giver_view (end_view holds d.giver.list d.giver.known d.giver.loads)
-  still_holds d holds o list known loads e is = is_giver_view d o list known loads e ∙ ap (λ b. giver_view (end_view b d.giver.list d.giver.known d.giver.loads)) (ap (λ u. u.giver.holds) e ∙ sym is)
+  pub still_holds : {name : RingName} (d : View X) (holds o : Bool) (list : List X) (known loads : ℕ) → d ≡ giver_view (end_view name o list known loads) → holds ≡ o → d ≡ giver_view (end_view d.giver.name holds d.giver.list d.giver.known d.giver.loads)
+  still_holds d holds o list known loads e is = is_giver_view d o list known loads e ∙ ap (λ b. giver_view (end_view d.giver.name b d.giver.list d.giver.known d.giver.loads)) (ap (λ u. u.giver.holds) e ∙ sym is)
 
   pub gave_facts : (me m m' : SeatState X) (slots k new : ℕ) (x : X) → m ≡ (me.0, (k, Some x) ∷ rest me.1) → rest me.1 ≡ [] → gave (step slots 16 new 0 none) m new m'
-      → (m'.0 ≡ giver_view (end_view true (me.0.giver.list ++ x ∷ []) me.0.giver.known me.0.giver.loads)) × (m'.1 ≡ ((length me.0.giver.list + 1) % slots, None) ∷ [])
+      → (m'.0 ≡ giver_view (end_view me.0.giver.name true (me.0.giver.list ++ x ∷ []) me.0.giver.known me.0.giver.loads)) × (m'.1 ≡ ((length me.0.giver.list + 1) % slots, None) ∷ [])
   gave_facts me m m' slots k new x e bare g = let t = g k x (ap (λ u. u.1) e ∙ ap (λ l. (k, Some x) ∷ l) bare) in
-      (t.0 ∙ ap (λ (u : SeatState X). giver_view (end_view true (u.0.giver.list ++ x ∷ []) u.0.giver.known u.0.giver.loads)) e, t.1 ∙ ap (λ (u : SeatState X). ((length u.0.giver.list + 1) % slots, None) ∷ []) e)
+      (t.0 ∙ ap (λ (u : SeatState X). giver_view (end_view u.0.giver.name true (u.0.giver.list ++ x ∷ []) u.0.giver.known u.0.giver.loads)) e, t.1 ∙ ap (λ (u : SeatState X). ((length u.0.giver.list + 1) % slots, None) ∷ []) e)
 
   pub gave_last_facts : (me m m' : SeatState X) (slots k new : ℕ) (x : X) → m ≡ (me.0, (k, Some x) ∷ rest me.1) → rest me.1 ≡ [] → gave_last (step slots 16 new 0 none) m new m'
-      → (m'.0 ≡ giver_view (end_view false (me.0.giver.list ++ x ∷ []) me.0.giver.known me.0.giver.loads)) × (m'.1 ≡ [])
+      → (m'.0 ≡ giver_view (end_view me.0.giver.name false (me.0.giver.list ++ x ∷ []) me.0.giver.known me.0.giver.loads)) × (m'.1 ≡ [])
   gave_last_facts me m m' slots k new x e bare g = let t = g k x (ap (λ u. u.1) e ∙ ap (λ l. (k, Some x) ∷ l) bare) in
-      (t.0 ∙ ap (λ (u : SeatState X). giver_view (end_view false (u.0.giver.list ++ x ∷ []) u.0.giver.known u.0.giver.loads)) e, t.1)
+      (t.0 ∙ ap (λ (u : SeatState X). giver_view (end_view u.0.giver.name false (u.0.giver.list ++ x ∷ []) u.0.giver.known u.0.giver.loads)) e, t.1)
 
   -- the same steps, after x was put into the slot in end_view
-  pub gives_one_here : (place : X → ℕ) (slots id : ℕ) (me me' : SeatState X) (k new : ℕ) (x : X) → me' ≡ (me.0, (k, Some x) ∷ rest me.1) → me.0 ≡ giver_view (end_view true me.0.giver.list me.0.giver.known me.0.giver.loads)
-      → rest me.1 ≡ [] → k ≡ length me.0.giver.list % slots → new ≡ length me.0.giver.list + 1 → place x ≡ length me.0.giver.list → length me.0.giver.list + 1 < me.0.giver.known + slots
-      → Allows (IsRing place) slots id me' 16 (λ _. new) (λ _. gave (step slots 16 new 0 none) me' new)
-  gives_one_here place slots id me me' k new x e is bare k_is new_is at_place near = subst (λ (m : SeatState X). Allows (IsRing place) slots id m 16 (λ _. new) (λ _. gave (step slots 16 new 0 none) m new)) (sym e)
-      (gives_one place slots id (me.0, (k, Some x) ∷ rest me.1) k new x is (ap (λ l. (k, Some x) ∷ l) bare) k_is new_is at_place near)
+  pub gives_one_here : (stands : RingName → ℕ → X → Type 0) (slots id : ℕ) (me me' : SeatState X) (k new : ℕ) (x : X) → me' ≡ (me.0, (k, Some x) ∷ rest me.1) → me.0 ≡ giver_view (end_view me.0.giver.name true me.0.giver.list me.0.giver.known me.0.giver.loads)
+      → rest me.1 ≡ [] → k ≡ length me.0.giver.list % slots → new ≡ length me.0.giver.list + 1 → stands me.0.giver.name (length me.0.giver.list) x → length me.0.giver.list + 1 < me.0.giver.known + slots
+      → Allows (IsRing stands) slots id me' 16 (λ _. new) (λ _. gave (step slots 16 new 0 none) me' new)
+  gives_one_here stands slots id me me' k new x e is bare k_is new_is at_place near = subst (λ (m : SeatState X). Allows (IsRing stands) slots id m 16 (λ _. new) (λ _. gave (step slots 16 new 0 none) m new)) (sym e)
+      (gives_one stands slots id (me.0, (k, Some x) ∷ rest me.1) k new x is (ap (λ l. (k, Some x) ∷ l) bare) k_is new_is at_place near)
 
-  pub gives_last_here : (place : X → ℕ) (slots id : ℕ) (me me' : SeatState X) (k new : ℕ) (x : X) → me' ≡ (me.0, (k, Some x) ∷ rest me.1) → me.0 ≡ giver_view (end_view true me.0.giver.list me.0.giver.known me.0.giver.loads)
-      → rest me.1 ≡ [] → k ≡ length me.0.giver.list % slots → new ≡ length me.0.giver.list + 1 → place x ≡ length me.0.giver.list
-      → Allows (IsRing place) slots id me' 16 (λ _. new) (λ _. gave_last (step slots 16 new 0 none) me' new)
-  gives_last_here place slots id me me' k new x e is bare k_is new_is at_place = subst (λ (m : SeatState X). Allows (IsRing place) slots id m 16 (λ _. new) (λ _. gave_last (step slots 16 new 0 none) m new)) (sym e)
-      (gives_last place slots id (me.0, (k, Some x) ∷ rest me.1) k new x is (ap (λ l. (k, Some x) ∷ l) bare) k_is new_is at_place)
+  pub gives_last_here : (stands : RingName → ℕ → X → Type 0) (slots id : ℕ) (me me' : SeatState X) (k new : ℕ) (x : X) → me' ≡ (me.0, (k, Some x) ∷ rest me.1) → me.0 ≡ giver_view (end_view me.0.giver.name true me.0.giver.list me.0.giver.known me.0.giver.loads)
+      → rest me.1 ≡ [] → k ≡ length me.0.giver.list % slots → new ≡ length me.0.giver.list + 1 → stands me.0.giver.name (length me.0.giver.list) x
+      → Allows (IsRing stands) slots id me' 16 (λ _. new) (λ _. gave_last (step slots 16 new 0 none) me' new)
+  gives_last_here stands slots id me me' k new x e is bare k_is new_is at_place = subst (λ (m : SeatState X). Allows (IsRing stands) slots id m 16 (λ _. new) (λ _. gave_last (step slots 16 new 0 none) m new)) (sym e)
+      (gives_last stands slots id (me.0, (k, Some x) ∷ rest me.1) k new x is (ap (λ l. (k, Some x) ∷ l) bare) k_is new_is at_place)
 
-  pub takes_one_here : (place : X → ℕ) (slots id : ℕ) (me me' : SeatState X) (k count new : ℕ) → me' ≡ (me.0, (k, None) ∷ rest me.1) → me.0 ≡ taker_view (end_view true me.0.taker.list me.0.taker.known me.0.taker.loads)
-      → rest me.1 ≡ [] → length me.0.taker.list ≡ count + 1 → k ≡ count % slots → new ≡ count + 1 → Allows (IsRing place) slots id me' 32 (λ _. new) (λ _. took (step slots 32 new 0 none) me' new)
-  takes_one_here place slots id me me' k count new e is bare size k_is new_is = subst (λ (m : SeatState X). Allows (IsRing place) slots id m 32 (λ _. new) (λ _. took (step slots 32 new 0 none) m new)) (sym e)
-      (takes_one place slots id (me.0, (k, None) ∷ rest me.1) k count new is (ap (λ l. (k, None) ∷ l) bare) size k_is new_is)
+  pub takes_one_here : (stands : RingName → ℕ → X → Type 0) (slots id : ℕ) (me me' : SeatState X) (k count new : ℕ) → me' ≡ (me.0, (k, None) ∷ rest me.1) → me.0 ≡ taker_view (end_view me.0.taker.name true me.0.taker.list me.0.taker.known me.0.taker.loads)
+      → rest me.1 ≡ [] → length me.0.taker.list ≡ count + 1 → k ≡ count % slots → new ≡ count + 1 → Allows (IsRing stands) slots id me' 32 (λ _. new) (λ _. took (step slots 32 new 0 none) me' new)
+  takes_one_here stands slots id me me' k count new e is bare size k_is new_is = subst (λ (m : SeatState X). Allows (IsRing stands) slots id m 32 (λ _. new) (λ _. took (step slots 32 new 0 none) m new)) (sym e)
+      (takes_one stands slots id (me.0, (k, None) ∷ rest me.1) k count new is (ap (λ l. (k, None) ∷ l) bare) size k_is new_is)
 
 blank : {X : Type 0} (n i : ℕ) → i < n → get_elem? (map some (replicate {A = Option X} n None)) i ≡ some (some None)
 blank zero i near = absurd (omega arith)
 blank (suc n) zero near = refl
 blank (suc n) (suc i) near = blank n i (omega arith)
 
-pub starts : {X : Type 0} (place : X → ℕ) (n : ℕ) → 0 < n → IsRing place (opening (replicate 48 0) (replicate {A = Option X} n None) (view (end_view false [] 0 0) (end_view false [] 0 0)))
-starts {X} place n pos = let xs : List (Option X) = replicate n None in let deep : length (map some xs) ≡ n = length-map xs some ∙ length-replicate n None in
-    let z : Progress X = record { given = []; taken = 0; giver_holds = false; taker_holds = false; giver = 0; taker = 0 } in record {
+pub starts : {X : Type 0} (stands : RingName → ℕ → X → Type 0) (name : RingName) (n : ℕ) → 0 < n → IsRing stands (opening (replicate 48 0) (replicate {A = Option X} n None) (view (end_view name false [] 0 0) (end_view name false [] 0 0)))
+starts {X} stands name n pos = let xs : List (Option X) = replicate n None in let deep : length (map some xs) ≡ n = length-map xs some ∙ length-replicate n None in
+    let z : Progress X = record { name = name; given = []; taken = 0; giver_holds = false; taker_holds = false; giver = 0; taker = 0 } in record {
       progress = z;
       wide = refl;
       given_is = refl;
@@ -447,6 +448,6 @@ starts {X} place n pos = let xs : List (Option X) = replicate n None in let deep
         placed = λ k x at. absurd (maybe.some-ne-none x (sym at));
       };
       each_seat = λ j d e. ⊎_elim (λ (none_there : get_elem? [] j ≡ some d). absurd (maybe.some-ne-none d (sym none_there)))
-          (λ h. subst (λ (y : ℕ × View X). Fits z y.0 y.1) (λ i. (sym h.0 i, h.1 i)) (record { gives = λ _. (refl, refl, omega arith, refl); takes = λ _. (refl, refl, omega arith, refl) }))
-          (at_end [] (view (end_view false [] 0 0) (end_view false [] 0 0)) d j e);
+          (λ h. subst (λ (y : ℕ × View X). Fits z y.0 y.1) (λ i. (sym h.0 i, h.1 i)) (record { gives = λ _. (refl, refl, omega arith, refl, refl); takes = λ _. (refl, refl, omega arith, refl, refl) }))
+          (at_end [] (view (end_view name false [] 0 0) (end_view name false [] 0 0)) d j e);
     }

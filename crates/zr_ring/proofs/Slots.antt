@@ -8,17 +8,18 @@ use native.Mathlib.Nat.{add-mod_right}
 use lib.ListN.{get_elem?}
 use Rattle.std.specs.Prelude.{Option, Some, None}
 use Rattle.atomic_table.proofs.Lists.{set_here, set_else}
+use Rattle.zr_ring.specs.declared.name.RingName.{RingName}
 use Rattle.zr_ring.specs.Rule.{Progress, AreSlots, one_if}
 use Rattle.zr_hist.proofs.Views.{at_end, at_below}
 use Rattle.zr_ring.proofs.Lists.{apart}
 
-module _ {X : Type 0} (place : X → ℕ) (cap : ℕ) where
+module _ {X : Type 0} (stands : RingName → ℕ → X → Type 0) (cap : ℕ) where
   abbrev Homes : Type 0
   Homes = List (maybe.Option (Option X))
 
   -- the taker takes the slot of the next place
-  pub taker_takes_slot : (z : Progress X) (homes : Homes) → AreSlots place cap z homes → z.taker_holds ≡ false → z.taken < length z.given
-      → AreSlots place cap record z { taker_holds = true } (set homes (z.taken % cap) none)
+  pub taker_takes_slot : (z : Progress X) (homes : Homes) → AreSlots stands cap z homes → z.taker_holds ≡ false → z.taken < length z.given
+      → AreSlots stands cap record z { taker_holds = true } (set homes (z.taken % cap) none)
   taker_takes_slot z homes s idle some_item =
       let i : ℕ = z.taken % cap in
       let within = s.within in record {
@@ -34,8 +35,8 @@ module _ {X : Type 0} (place : X → ℕ) (cap : ℕ) where
       }
 
   -- it gives the slot back, empty
-  pub taker_returns_slot : (z : Progress X) (homes : Homes) → AreSlots place cap z homes → z.taker_holds ≡ true
-      → AreSlots place cap record z { taker_holds = false; taken = z.taken + 1 } (set homes (z.taken % cap) (some None))
+  pub taker_returns_slot : (z : Progress X) (homes : Homes) → AreSlots stands cap z homes → z.taker_holds ≡ true
+      → AreSlots stands cap record z { taker_holds = false; taken = z.taken + 1 } (set homes (z.taken % cap) (some None))
   taker_returns_slot z homes s holds =
       let t : ℕ = z.taken in
       let i : ℕ = t % cap in
@@ -58,8 +59,8 @@ module _ {X : Type 0} (place : X → ℕ) (cap : ℕ) where
       }
 
   -- the giver takes the slot of the next place
-  pub giver_takes_slot : (z : Progress X) (homes : Homes) → AreSlots place cap z homes → z.giver_holds ≡ false → length z.given < z.taken + cap
-      → AreSlots place cap record z { giver_holds = true } (set homes (length z.given % cap) none)
+  pub giver_takes_slot : (z : Progress X) (homes : Homes) → AreSlots stands cap z homes → z.giver_holds ≡ false → length z.given < z.taken + cap
+      → AreSlots stands cap record z { giver_holds = true } (set homes (length z.given % cap) none)
   giver_takes_slot z homes s idle near =
       let n : ℕ = length z.given in
       let i : ℕ = n % cap in
@@ -78,8 +79,8 @@ module _ {X : Type 0} (place : X → ℕ) (cap : ℕ) where
       }
 
   -- it gives the slot back with x
-  pub giver_returns_slot : (z : Progress X) (homes : Homes) (x : X) → AreSlots place cap z homes → z.giver_holds ≡ true → place x ≡ length z.given
-      → AreSlots place cap record z { giver_holds = false; given = z.given ++ x ∷ [] } (set homes (length z.given % cap) (some (Some x)))
+  pub giver_returns_slot : (z : Progress X) (homes : Homes) (x : X) → AreSlots stands cap z homes → z.giver_holds ≡ true → stands z.name (length z.given) x
+      → AreSlots stands cap record z { giver_holds = false; given = z.given ++ x ∷ [] } (set homes (length z.given % cap) (some (Some x)))
   giver_returns_slot z homes x s holds at_place =
       let n : ℕ = length z.given in
       let i : ℕ = n % cap in
@@ -98,5 +99,5 @@ module _ {X : Type 0} (place : X → ℕ) (cap : ℕ) where
             (λ new. ap (λ (j : ℕ). get_elem? (set homes i (some (Some x))) (j % cap)) new.0 ∙ set_here homes i (some (Some x)) (subst (λ (j : ℕ). i < j) (sym deep) (mod-lt n s.some_slot)) ∙ ap (λ (w : X). some (some (Some w))) new.1)
             (at_end z.given x y k at);
         empty = λ k le far ne. set_else homes i (k % cap) (some (Some x)) (apart n k cap (omega arith) (omega arith)) ∙ s.empty k (omega arith) far (λ _ e. absurd (omega arith));
-        placed = λ k y at. ⊎_elim (λ old. s.placed k y old) (λ new. ap place (sym new.1) ∙ at_place ∙ sym new.0) (at_end z.given x y k at);
+        placed = λ k y at. ⊎_elim (λ old. s.placed k y old) (λ new. subst (λ (u : ℕ × X). stands z.name u.0 u.1) (λ i. (sym new.0 i, new.1 i)) at_place) (at_end z.given x y k at);
       }

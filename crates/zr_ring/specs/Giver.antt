@@ -1,8 +1,10 @@
 -- What a contract sees of a giver.
 use Rattle.std.specs.Prelude.{◌≡◌, ℕ, ◌-◌, Bool, List, length}
+use Rattle.zr_ring.specs.declared.name.RingName.{RingName}
 use Rattle.zr_ring.specs.declared.parcel.Note.{Ghosts}
 use Rattle.zr_ring.specs.declared.parcel.Item.{Item}
 use Rattle.zr_ring.specs.declared.giver.Giver.{Giver}
+use Rattle.zr_ring.specs.Ends as ends
 use Rattle.zr_ring.specs.Ends.{given, known_taken, giver_loads}
 use Rattle.zr_ring.specs.Items.{ends_given}
 
@@ -35,5 +37,9 @@ module _ {N : Type 0} {g : Ghosts N} where
   abbrev pub free_calls : Giver N g → ℕ
   free_calls x = giver_loads x.ring
 
+  -- the name of its ring
+  abbrev pub giver_name : Giver N g → RingName
+  giver_name x = ends.giver_name x.ring
+
   abbrev pub IsSameGiver : Giver N g → Giver N g → Type 0
-  IsSameGiver old new = (new.ring.seat.table_id ≡ old.ring.seat.table_id) × (slots_of new ≡ slots_of old)
+  IsSameGiver old new = (new.ring.seat.table_id ≡ old.ring.seat.table_id) × (slots_of new ≡ slots_of old) × (giver_name new ≡ giver_name old)

@@ -1,5 +1,6 @@
 -- What goes through a ring: parcels, and at last its end.
 use Rattle.std.specs.Prelude.{◌≡◌, ℕ, ◌+◌, ◌-◌, Bool, true, false, List, [], ◌∷◌, ◌++◌, Option, Some, None, map, length, min, ◌^◌}
+use Rattle.zr_ring.specs.declared.name.RingName.{RingName}
 use Rattle.zr_ring.specs.declared.parcel.Note.{Ghosts}
 use Rattle.zr_ring.specs.declared.parcel.Parcel.{Parcel}
 use Rattle.zr_ring.specs.declared.parcel.Ending.{Ending}
@@ -14,6 +15,15 @@ module _ {N : Type 0} {g : Ghosts N} where
   abbrev pub place_of : Item N g → ℕ
   place_of (One p) = p.place
   place_of (Last e) = e.place
+
+  -- the note of the item is one for this ring
+  abbrev pub FitsRing : RingName → Item N g → Type 0
+  FitsRing name (One p) = g.fits name p.note
+  FitsRing name (Last e) = g.fits name e.note
+
+  -- the item may stand in the ring of this name at the place k
+  abbrev pub Stands : RingName → ℕ → Item N g → Type 0
+  Stands name k x = (place_of x ≡ k) × FitsRing name x
 
   abbrev pub ones : List (Parcel N g) → List (Item N g)
   ones parcels = map (λ p. One p) parcels

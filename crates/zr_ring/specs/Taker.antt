@@ -1,5 +1,6 @@
 -- What a contract sees of a taker, and what a take tells.
 use Rattle.std.specs.Prelude.{◌≡◌, ℕ, ◌<◌, ◌⊎◌, Bool, true, false, List, [], ◌∷◌, ◌++◌, length, Option, Some, None}
+use Rattle.zr_ring.specs.declared.name.RingName.{RingName}
 use Rattle.zr_ring.specs.declared.parcel.Note.{Ghosts}
 use Rattle.zr_ring.specs.declared.parcel.Item.{Item}
 use Rattle.zr_ring.specs.declared.parcel.Ending.{Ending}
@@ -24,6 +25,10 @@ module _ {N : Type 0} {g : Ghosts N} where
   abbrev pub take_calls : Taker N g → ℕ
   take_calls t = ends.taker_loads t.ring
 
+  -- the name of its ring
+  abbrev pub taker_name : Taker N g → RingName
+  taker_name t = ends.taker_name t.ring
+
   -- they are the two ends of one ring
   abbrev pub IsPair : Giver N g → Taker N g → Type 0
   IsPair x t = ends.AreEnds x.ring t.ring
@@ -44,6 +49,12 @@ module _ {N : Type 0} {g : Ghosts N} where
       × (end_of after ≡ None)
   Tells (Ended reason) before after given = TakesEnd before after reason given × (end_of after ≡ Some reason)
   Tells Nothing before after given = (after ≡ before) × (given ≡ length before) × (end_of after ≡ None)
+
+  -- what is taken is for the ring of this name, as its note says
+  abbrev pub TakesFor : RingName → Took N g → Type 0
+  TakesFor name (Parcel p) = g.fits name p.note
+  TakesFor name (Ended reason) = Unit {0}
+  TakesFor name Nothing = Unit {0}
 
   abbrev pub is_nothing : Took N g → Bool
   is_nothing (Parcel p) = false

@@ -3,6 +3,7 @@ ghost use Rattle.std.specs.Prelude.{◌≡◌, ◌≢◌, ℕ, ◌+◌, ◌%◌,
 ghost use Rattle.std.specs.Arc.{arc_value};
 ghost use Rattle.zr_ring.specs.Rule.{all_words, giver_view, taker_view, end_view};
 
+use crate::name::RingName;
 use crate::rule::{HasPlace, RingRule, View};
 use crate::steps::{
     Begin, Give, GiveLast, JoinGiver, LoadGivenBeside, LoadTaken, LoadTakenBeside, Look, SeeGiven,
@@ -19,7 +20,7 @@ const TAKEN: usize = 32;
 
 const WORDS: usize = 48;
 
-type RingTable<X> = Table<Option<X>, View<X>, (), RingRule, Global>;
+type RingTable<X> = Table<Option<X>, View<X>, RingName, RingRule, Global>;
 
 type RingSeat<X> = Seat<Option<X>, View<X>>;
 
@@ -33,7 +34,7 @@ pub(crate) struct GivingEnd<X: HasPlace + Drop> {
     pub(crate) going: bool,
     ghost seated: { (seat.table_id ≡ (arc_value table).shared.table_id) × (seat.table_id.words ≡ all_words) × (seat.table_id.slots ≡ slots) × (0 < slots) },
     ghost counted: { count ≡ length seat.me.0.giver.list },
-    ghost knows: { seat.me.0 ≡ giver_view (end_view going seat.me.0.giver.list seat.me.0.giver.known seat.me.0.giver.loads) },
+    ghost knows: { seat.me.0 ≡ giver_view (end_view seat.me.0.giver.name going seat.me.0.giver.list seat.me.0.giver.known seat.me.0.giver.loads) },
     ghost holds: { (going ≡ true → seat.me.1 ≡ (count % slots, None) ∷ []) × (going ≡ false → seat.me.1 ≡ []) },
 }
 
@@ -46,25 +47,27 @@ pub(crate) struct TakingEnd<X: HasPlace + Drop> {
     pub(crate) count: u64,
     ghost seated: { (seat.table_id ≡ (arc_value table).shared.table_id) × (seat.table_id.words ≡ all_words) × (seat.table_id.slots ≡ slots) × (0 < slots) },
     ghost counted: { count ≡ length seat.me.0.taker.list },
-    ghost knows: { seat.me ≡ (taker_view (end_view false seat.me.0.taker.list seat.me.0.taker.known seat.me.0.taker.loads), []) },
+    ghost knows: { seat.me ≡ (taker_view (end_view seat.me.0.taker.name false seat.me.0.taker.list seat.me.0.taker.known seat.me.0.taker.loads), []) },
 }
 
 impl<X: HasPlace + Drop> GivingEnd<X> {
     ghost use Rattle.std.specs.Prelude.{◌++◌, ◌≤◌, IfOk};
     ghost use mathlib.Core.List.{IsPrefix};
-    ghost use Rattle.zr_ring.specs.Ends.{given, known_taken, giver_loads, taken, known_given, taker_loads, AreEnds, IsSameGivingEnd, IsSameTakingEnd};
+    ghost use Rattle.zr_ring.specs.Ends.{given, known_taken, giver_loads, giver_name, taken, known_given, taker_loads, taker_name, AreEnds, IsSameGivingEnd, IsSameTakingEnd};
 
-    /// Two ends of a new ring.
+    /// Two ends of a new ring of this name.
     pub(crate) fn pair(
         alloc: Global,
         slots: u64,
+        name: RingName,
     ) -> Result<(GivingEnd<X>, TakingEnd<X>), AllocError>
         requires { (0 < slots) × (slots < 2 ^ 33) }
         ensures pair { IfOk result (λ r. AreEnds r.0 r.1 × (r.0.slots ≡ slots)) }
+        ensures name { IfOk result (λ r. (giver_name r.0 ≡ name) × (taker_name r.1 ≡ name)) }
         ensures giving { IfOk result (λ r. (given r.0 ≡ []) × (known_taken r.0 ≡ 0) × (giver_loads r.0 ≡ 0) × (r.0.going ≡ true)) }
         ensures taking { IfOk result (λ r. (taken r.1 ≡ []) × (known_given r.1 ≡ 0) × (taker_loads r.1 ≡ 0)) }
     {
-        let (table, mut seat) = Table::vacant(alloc, &[0; WORDS], slots as usize, &())?;
+        let (table, mut seat) = Table::vacant(alloc, &[0; WORDS], slots as usize, &name)?;
         let mut giver = table.shared.split_seat::<SplitGiver>(&mut seat);
         table.shared.load::<Begin>(&mut giver, GIVEN);
         let table = Arc::new(alloc, table)?;
@@ -98,7 +101,7 @@ impl<X: HasPlace + Drop> GivingEnd<X> {
     pub(crate) fn put(&mut self, x: X)
         requires going { self.old.going ≡ true }
         requires room { length (given self.old) + 1 < known_taken self.old + self.old.slots }
-        requires place { X.place x ≡ length (given self.old) }
+        requires place { X.stands (giver_name self.old) (length (given self.old)) x }
         requires small { length (given self.old) + 1 < 2 ^ 64 }
         ensures same { IsSameGivingEnd self.old self.new × (self.new.going ≡ true) }
         ensures given { given self.new ≡ given self.old ++ x ∷ [] }
@@ -115,7 +118,7 @@ impl<X: HasPlace + Drop> GivingEnd<X> {
     /// Gives the last item, and holds no slot any more.
     pub(crate) fn put_last(&mut self, x: X)
         requires going { self.old.going ≡ true }
-        requires place { X.place x ≡ length (given self.old) }
+        requires place { X.stands (giver_name self.old) (length (given self.old)) x }
         requires small { length (given self.old) + 1 < 2 ^ 64 }
         ensures same { IsSameGivingEnd self.old self.new × (self.new.going ≡ false) }
         ensures given { given self.new ≡ given self.old ++ x ∷ [] }
@@ -153,13 +156,13 @@ impl<X: HasPlace + Drop> GivingEnd<X> {
 
 impl<X: HasPlace + Drop> TakingEnd<X> {
     ghost use Rattle.std.specs.Prelude.{◌++◌, ◌≤◌, IfSome, IfNone};
-    ghost use Rattle.zr_ring.specs.Ends.{taken, known_given, taker_loads, IsSameTakingEnd};
+    ghost use Rattle.zr_ring.specs.Ends.{taken, known_given, taker_loads, taker_name, IsSameTakingEnd};
 
     /// Takes the next item, where the count given says that there is one.
     pub(crate) fn take(&mut self) -> Option<X>
         ensures same { IsSameTakingEnd self.old self.new × (taker_loads self.new ≡ taker_loads self.old + 1) }
         ensures known { (known_given self.old ≤ known_given self.new) × (length (taken self.old) ≤ known_given self.new) }
-        ensures some { IfSome result (λ x. (X.place x ≡ length (taken self.old)) × (taken self.new ≡ taken self.old ++ x ∷ []) × (length (taken self.old) < known_given self.new)) }
+        ensures some { IfSome result (λ x. X.stands (taker_name self.old) (length (taken self.old)) x × (taken self.new ≡ taken self.old ++ x ∷ []) × (length (taken self.old) < known_given self.new)) }
         ensures none { IfNone result ((taken self.new ≡ taken self.old) × (known_given self.new ≡ length (taken self.old))) }
     {
         let given = self.table.shared.load::<SeeGiven>(&mut self.seat, GIVEN);

@@ -1,5 +1,7 @@
 //! The end that gives parcels. It may stand under a lock: none of its calls waits or asks for memory.
 ghost use Rattle.std.specs.Prelude.{◌≡◌, ◌+◌, ◌-◌, ◌^◌, ◌<◌, ◌≤◌, ◌++◌, true, false, length};
+ghost use Rattle.std.specs.List.{AllByRecursion};
+ghost use Rattle.zr_ring.specs.Ends as ends;
 ghost use Rattle.zr_ring.specs.Ends.{given, known_taken, giver_loads, IsSameGivingEnd};
 ghost use Rattle.zr_ring.specs.Items.{most_parcels, ends_given, GoOnFrom, ones};
 
@@ -33,11 +35,11 @@ impl<N: Note + Drop> Drop for Giver<N> {
 }
 
 impl<N: Note + Drop> Giver<N> {
-    ghost use Rattle.std.specs.Prelude.{◌↔◌, ◌∷◌, [], None, is_err, OnOk, IfErr, nat_lt};
+    ghost use Rattle.std.specs.Prelude.{◌↔◌, ◌∷◌, [], None, is_err, All, OnOk, IfErr, nat_lt};
     ghost use mathlib.Core.List.{IsPrefix};
     ghost use Rattle.zr_ring.specs.Content.{end};
     ghost use Rattle.zr_ring.specs.Items.{AddsEnd, end_of, free_of, free_places};
-    ghost use Rattle.zr_ring.specs.Giver.{sent, is_going, number, slots_of, free_slots, taken_loaded, free_calls, IsSameGiver};
+    ghost use Rattle.zr_ring.specs.Giver.{sent, giver_name, is_going, number, slots_of, free_slots, taken_loaded, free_calls, IsSameGiver};
     ghost use Rattle.zr_ring.specs.Taker.{taken, given_loaded, take_calls, IsPair, IsSameTaker, Tells, is_nothing};
 
     /// Loads the count taken. The answer is the free slots known from now on.
@@ -59,6 +61,7 @@ impl<N: Note + Drop> Giver<N> {
     pub fn give(&mut self, parcels: Vec<Parcel<N>>) -> Result<(), Vec<Parcel<N>>>
         requires going { is_going self.old ≡ true }
         requires places { GoOnFrom (number self.old) parcels.items }
+        requires fits { All (λ p. N.fits (giver_name self.old) p.note) parcels.items }
         ensures refused { is_err result ≡ nat_lt (free_slots self.old) (length parcels.items) }
         ensures same { IsSameGiver self.old self.new × (is_going self.new ≡ true) }
         ensures loaded { (taken_loaded self.new ≡ taken_loaded self.old) × (free_calls self.new ≡ free_calls self.old) }
@@ -79,6 +82,7 @@ impl<N: Note + Drop> Giver<N> {
     pub fn give_one(&mut self, parcel: Parcel<N>)
         requires going { is_going self.old ≡ true }
         requires place { parcel.place ≡ number self.old }
+        requires fits { N.fits (giver_name self.old) parcel.note }
         requires room { 0 < free_slots self.old }
         ensures same { IsSameGiver self.old self.new × (is_going self.new ≡ true) }
         ensures loaded { (taken_loaded self.new ≡ taken_loaded self.old) × (free_calls self.new ≡ free_calls self.old) }
@@ -93,6 +97,7 @@ impl<N: Note + Drop> Giver<N> {
     pub fn end(&mut self, reason: Option<u8>, note: N)
         requires going { is_going self.old ≡ true }
         requires vouched { N.vouches note (end reason) (number self.old) }
+        requires fits { N.fits (giver_name self.old) note }
         ensures same { IsSameGiver self.old self.new × (is_going self.new ≡ false) }
         ensures given { AddsEnd (sent self.old) (sent self.new) reason note }
         ensures free { free_slots self.new ≡ free_slots self.old }
@@ -157,6 +162,7 @@ impl<N: Note + Drop> Giver<N> {
 fn give_all<N: Note + Drop>(ring: &mut GivingEnd<Item<N>>, parcels: Vec<Parcel<N>>)
     requires going { ring.old.going ≡ true }
     requires places { GoOnFrom (length (given ring.old)) parcels.items }
+    requires fits { AllByRecursion (λ p. N.fits (ends.giver_name ring.old) p.note) parcels.items }
     requires room { length (given ring.old) + length parcels.items < known_taken ring.old + ring.old.slots }
     requires small { length (given ring.old) + length parcels.items < 2 ^ 64 }
     ensures same { IsSameGivingEnd ring.old ring.new × (ring.new.going ≡ true) }

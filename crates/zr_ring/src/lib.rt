@@ -5,6 +5,7 @@
 mod bytes;
 mod ends;
 mod giver;
+mod name;
 mod pair;
 mod parcel;
 mod queue;
@@ -14,6 +15,7 @@ mod taker;
 
 pub use bytes::{Bytes, MOST_HEAD};
 pub use giver::Giver;
+pub use name::RingName;
 pub use pair::ring;
 pub use parcel::{Ending, Item, MOST_BYTES, Note, Parcel};
 pub use queue::{Queue, parcels_keep_their_places};

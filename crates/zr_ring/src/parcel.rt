@@ -1,6 +1,7 @@
 //! What goes through a ring: parcels, and at last its end, each with its place and a note.
 ghost use Rattle.std.specs.Prelude.{◌≡◌, ◌≤◌, ℕ, length};
 ghost use Rattle.zr_ring.specs.Content.{Content, bytes_of, end};
+ghost use Rattle.zr_ring.specs.declared.name.RingName.{RingName};
 ghost use Rattle.zr_ring.specs.declared.parcel.TheConstants.{MOST_BYTES};
 
 use crate::bytes::Bytes;
@@ -15,6 +16,9 @@ pub trait Note {
 
     /// Nothing but its truth is to be known of what a note vouches for.
     ghost is_fact: { (n : Self) (c : Content) (k : ℕ) → IsProp (vouches n c k) };
+
+    /// Whether it is a note for the ring of this name.
+    ghost fits: { RingName → Self → Type 0 };
 }
 
 /// Some bytes, their place in the ring, counted from 0, and the note that vouches for them there.
@@ -44,7 +48,7 @@ pub enum Item<N: Note> {
 }
 
 impl<N: Note> HasPlace for Item<N> {
-    ghost use Rattle.zr_ring.specs.Items.{place_of};
+    ghost use Rattle.zr_ring.specs.Items.{Stands};
 
-    ghost place = { place_of };
+    ghost stands = { Stands };
 }

@@ -33,7 +33,7 @@ impl<X> Play<Option<X>, View<X>> for GiveLast {
 pub(crate) struct SeeGiven;
 
 impl<X: HasPlace> Play<Option<X>, View<X>> for SeeGiven {
-    ghost then = { saw_given X.place };
+    ghost then = { saw_given X.stands };
 }
 
 pub(crate) struct Take;

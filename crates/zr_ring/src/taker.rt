@@ -35,13 +35,14 @@ pub enum Took<N: Note> {
 
 impl<N: Note + Drop> Taker<N> {
     ghost use Rattle.std.specs.Prelude.{◌+◌, ◌≤◌};
-    ghost use Rattle.zr_ring.specs.Taker.{taken, given_loaded, take_calls, IsSameTaker, Tells};
+    ghost use Rattle.zr_ring.specs.Taker.{taken, taker_name, given_loaded, take_calls, IsSameTaker, TakesFor, Tells};
 
     /// Takes the next of what was given. It waits for nobody, and moves the bytes out.
     #[tactic(auto, using(crate::proofs::Items::end_of_one, crate::proofs::Items::end_of_last))]
     pub fn take(&mut self) -> Took<N>
         ensures same { IsSameTaker self.old self.new }
         ensures tells { Tells result (taken self.old) (taken self.new) (given_loaded self.new) }
+        ensures fits { TakesFor (taker_name self.old) result }
         ensures loaded { given_loaded self.old ≤ given_loaded self.new }
         ensures called { take_calls self.new ≡ take_calls self.old + 1 }
     {

@@ -253,6 +253,8 @@ impl<B: Naming, R: Wait + Drop> Port for Router<B, R> {
 
     type Note = Queued;
 
+    ghost router = { λ _. B.me };
+
     ghost history = { λ _. B.history };
 
     ghost policy = { λ _. B.policy };

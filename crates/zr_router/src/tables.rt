@@ -11,11 +11,12 @@ ghost use Rattle.zr_msg.specs.declared.event.Event.TheVariants as event;
 ghost use Rattle.zr_msg.specs.declared.msg.Msg.{Msg};
 ghost use Rattle.zr_port.specs.Adding.{Adds, IsAdmitted, IsEntryOf, IsLeastFree};
 ghost use Rattle.zr_port.specs.Coming.{Came, ComesUpTo, Makes, StopsAt, is_passed, message_of, sight};
+ghost use Rattle.zr_port.specs.Ring.{IsRingOf};
 ghost use Rattle.zr_port.specs.declared.entry.Entry.{Entry};
 ghost use Rattle.zr_port.specs.declared.error.DeliverError.{DeliverError};
 ghost use Rattle.zr_port.specs.declared.error.DownError.{DownError};
 ghost use Rattle.zr_port.specs.declared.error.UpError.{UpError};
-ghost use Rattle.zr_ring.specs.Taker.{taken, take_calls};
+ghost use Rattle.zr_ring.specs.Taker.{taken, taker_name, take_calls};
 ghost use Rattle.zr_node_spec.specs.Early.{is_early};
 ghost use Rattle.zr_node_spec.specs.Event.{MayCome, on_link};
 ghost use Rattle.zr_told_spec.specs.Hub.{hub_after, hub_refuses, hub_sends};
@@ -38,7 +39,7 @@ ghost use Rattle.zr_router.specs.Runs.{IsStep, RunsUpTo};
 ghost use Rattle.zr_router.specs.Refusals.{RefusesDown, RefusesMessage, RefusesUp, down_refusal, is_worn, most_sessions, peer_refusal};
 
 use crate::admit::{node_refusal, refuses_down, refuses_message, refuses_peer};
-use crate::ends::{closing_of, taken_out};
+use crate::ends::{closing_of, ring_name, taken_out};
 use crate::failure::Failure;
 use crate::former::tells_former;
 use crate::rests::{
@@ -503,6 +504,7 @@ impl<B: Naming> Tables<B> {
         ensures link { IfOk result (λ r. is_up B.me (entries self.new) r.0 ≡ true) }
         ensures numbered { IfOk result (λ r. r.0.0 < most_sessions) }
         ensures taker { IfOk result (λ r. (taken r.1 ≡ []) × (take_calls r.1 ≡ 0)) }
+        ensures ring { IfOk result (λ r. IsRingOf B.me r.0 (entries self.new) (taker_name r.1)) }
         ensures refused { IfErr result (λ e. e ≢ UpError.NoMemory → RefusesUp B.me (entries self.old) peer e) }
         ensures unchanged { OnErr result ((entries self.new ≡ entries self.old) × (mine pass.new ≡ mine pass.old)) }
         ensures unasked { IfErr result (λ e. e ≢ UpError.NoMemory → open_links self.new ≡ open_links self.old) }
@@ -553,8 +555,7 @@ impl<B: Naming> Tables<B> {
         }
     }
 
-    /// A link has ended, by this end for the reason where there is one. Its ring, whose giver is the answer, gets its end with that reason unless it
-    /// has one.
+    /// A link has ended, by this end for the reason where there is one. Its ring, whose giver is the answer, gets its end with it unless it has one.
     pub fn down(
         &mut self,
         alloc: Global,
@@ -686,12 +687,13 @@ impl<B: Naming> Tables<B> {
         requires { self.old.is_spent ≡ true }
         ensures same { (self.new.hub ≡ self.old.hub) × (list_of self.new.kept ≡ list_of self.old.kept) × (self.new.is_spent ≡ true) }
         ensures ends { IfOk result (λ taker. self.new.ends.items ≡ self.old.ends.items ++ new_end (new_queue link role outbox) (taker_ring taker) ∷ []) }
-        ensures taker { IfOk result (λ taker. (taken taker ≡ []) × (take_calls taker ≡ 0)) }
+        ensures taker { IfOk result (λ taker. (taken taker ≡ []) × (take_calls taker ≡ 0) × (taker_name taker ≡ record { router = self.old.me; link = link; since = length (list_of self.old.kept) })) }
     {
         if let Some(rested) = self.rested.get_mut(link.0 as usize) {
             *rested = Rested::never(); // not what the number's last link has rested
         }
-        let (end, taker) = LinkSender::new(alloc, link, role, outbox)?;
+        let name = ring_name(self.me, link, &self.kept);
+        let (end, taker) = LinkSender::new(alloc, name, role, outbox)?;
         match self.ends.push(end) {
             Ok(()) => Ok(taker),
             Err(_) => Err(AllocError),

@@ -17,11 +17,13 @@ use Rattle.zr_frame_pack.specs.Packing.{parcels_of}
 use Rattle.zr_port.specs.declared.entry.Entry.{Entry}
 use Rattle.zr_router_queue.specs.Tables.{Tables, replay, queues_at, queued_by, queue_of, is_among, is_droppable, is_other, slots_of, open_queues}
 use Rattle.zr_router_queue.specs.History.{may_come, has_parts, is_over, may_lack, queue_passes, may_be_dropped, may_be_closed, may_follow, is_legal}
-use Rattle.zr_router_queue.specs.Ends.{PlanState, EndState, IsEntered, IsPlan, IsPlanned, IsPlannedFor, IsSettled, MayEnter, is_closing, is_dropped, lacks_room}
+use Rattle.zr_router_queue.specs.Ends.{PlanState, EndState, IsEntered, IsNamed, IsPlan, IsPlanned, IsPlannedFor, IsSettled, MayEnter, is_closing, is_dropped, lacks_room}
 use Rattle.zr_router_queue.proofs.InStep.{and_both, distinct_at, distinct_queues, number}
 use Rattle.zr_router_queue.proofs.Lookups.{AreDistinct, all_kept, any_mapped, distinct_filter, distinct_unmap, each_among, each_both, each_found, each_kept, each_mapped, each_so}
-use Rattle.zr_router_queue.specs.Grows.{queue_after}
+use Rattle.zr_router_queue.specs.Grows.{keeps_link, queue_after}
 use Rattle.zr_router_queue.proofs.Replays.{legal_more, open_after, replays_more}
+use Rattle.zr_router_queue.proofs.Named.{named_too}
+use Rattle.zr_router_queue.proofs.Stepped.{zip_so}
 
 -- ---- plans
 
@@ -142,8 +144,8 @@ module _ (me : List ℕ) (h : List Entry) (entry : Entry) (ends : List EndState)
       (each_among (λ x. x.queue.link.0) p ends ends_distinct)
 
   entered_one : (x : EndState) → IsFound (replay me h) entry x → IsPlanned (replay me h).hub entry.event x → is_among entry.closed x.queue.link ≡ is_closing x →
-      is_among entry.dropped x.queue.link ≡ is_dropped x → IsEntered me (h ++ entry ∷ []) (replay me h).hub entry x
-  entered_one x found planned closed dropped = record {
+      is_among entry.dropped x.queue.link ≡ is_dropped x → IsNamed me (h ++ entry ∷ []) x → IsEntered me (h ++ entry ∷ []) (replay me h).hub entry x
+  entered_one x found planned closed dropped named = record {
     planned = planned;
     last = (h, refl);
     queue =
@@ -152,13 +154,14 @@ module _ (me : List ℕ) (h : List Entry) (entry : Entry) (ends : List EndState)
         ∙ ap (λ o. option_map_or (λ q. q.batches) (option_map (queued_by (replay me h).hub entry) o) []) found.1;
     closed = closed;
     dropped = dropped;
+    named = named;
   }
 
   pub each_entered : AllByRecursion (λ x. IsEntered me (h ++ entry ∷ []) (replay me h).hub entry x) ends
   each_entered =
-      each_so _ (λ x. IsEntered me (h ++ entry ∷ []) (replay me h).hub entry x) (λ x p. entered_one x p.0.0 p.0.1 p.1.0 p.1.1) ends
+      each_so _ (λ x. IsEntered me (h ++ entry ∷ []) (replay me h).hub entry x) (λ x p. entered_one x p.0.0 p.0.1 p.1.0.0 p.1.0.1 p.1.1) ends
       (each_both _ _ ends all_may
-      (each_both _ _ ends (among (λ x. is_closing x) entry.closed m.closed) (among (λ x. is_dropped x) entry.dropped m.dropped)))
+      (each_both _ _ ends (each_both _ _ ends (among (λ x. is_closing x) entry.closed m.closed) (among (λ x. is_dropped x) entry.dropped m.dropped)) m.named))
 
 -- ---- the queues that are left
 
@@ -186,3 +189,12 @@ queues_entered me h entry xs ys m r =
     ∙ ap (λ qs. map (queued_by (replay me h).hub entry) qs) m.queues
     ∙ sym (open_after (replay me h) entry)
     ∙ ap open_queues (sym (replays_more me h entry))
+
+-- each ring keeps its name
+pub names_entered : (me : List ℕ) (h : List Entry) (entry : Entry) (xs ys : List EndState) → MayEnter me h entry xs →
+    AllZip (λ old new. IsSettled entry old new) xs ys → AllByRecursion (λ x. IsNamed me (h ++ entry ∷ []) x) ys
+names_entered me h entry xs ys m r =
+    let hub = (replay me h).hub in
+    named_too me (h ++ entry ∷ []) xs ys m.named (zip_so (λ old new. IsSettled entry old new) (λ old new. new.ring ≡ old.ring) (λ old new s. s.1.0) xs ys r)
+    (zip_so (λ old new. new.queue ≡ queued_by hub entry old.queue) (λ old new. new.queue.link ≡ old.queue.link)
+    (λ old new q. ap (λ z. z.link) q ∙ keeps_link hub entry old.queue) xs ys (each_given hub entry xs ys m.planned r))

@@ -7,6 +7,7 @@ pub mod Kept
 pub mod KeptReplays
 pub mod Logs
 pub mod Lookups
+pub mod Named
 pub mod Plans
 pub mod Planning
 pub mod Fronts

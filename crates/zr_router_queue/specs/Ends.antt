@@ -5,15 +5,18 @@ use Rattle.std.specs.List.{AllByRecursion, AllZip, filter}
 use Rattle.atomic_table.specs.Seated.{TableId}
 use Rattle.zr_msg.specs.declared.event.Event.{Event}
 use Rattle.zr_msg.specs.declared.msg.Msg.{Msg}
+use Rattle.zr_ring.specs.declared.name.RingName.{RingName}
 use Rattle.zr_ring.specs.declared.parcel.Note.{Ghosts}
 use Rattle.zr_ring.specs.declared.giver.Giver.{Giver}
 use Rattle.zr_ring.specs.declared.taker.Taker.{Taker}
+use Rattle.zr_ring.specs.Giver.{giver_name}
+use Rattle.zr_ring.specs.Taker.{taker_name}
 use Rattle.zr_told_spec.specs.Hub.{HubState, hub_refuses, hub_sends}
 use Rattle.zr_frame.specs.Packing.{Parcels}
 use Rattle.zr_frame_pack.specs.Packing.{parcels_of}
 use Rattle.zr_port.specs.declared.entry.Entry.{Entry}
 use Rattle.zr_router_queue.specs.Tables.{LinkQueue, batches_for, slots_of, is_droppable, is_among, queued, queued_by, queues_at, replay, open_queues}
-use Rattle.zr_router_queue.specs.Note.{full_reason}
+use Rattle.zr_router_queue.specs.Note.{FitsRing, full_reason}
 use Rattle.zr_router_queue.specs.History.{has_parts, is_legal, may_come}
 
 -- what an event has for a link: its parcels, and whether it is one sample that may be dropped
@@ -21,30 +24,39 @@ pub record PlanState : Type 0 where
   pub parcels : Parcels
   pub droppable : Bool
 
+-- a ring: its table, and its name
+pub record RingState : Type 0 where
+  pub table : TableId
+  pub name : RingName
+
 -- what was queued for the link, its ring, the free slots of the ring that are known, how often the ring was asked for them, and the event's plan
 -- for the link
 pub record EndState : Type 0 where
   pub queue : LinkQueue
-  pub ring : TableId
+  pub ring : RingState
   pub free : ℕ
   pub calls : ℕ
   pub plan : Option PlanState
 
 -- the ring that one gives to, and the one that one takes from
 module _ {N : Type 0} {g : Ghosts N} where
-  abbrev pub giver_ring : Giver N g → TableId
-  giver_ring x = x.ring.seat.table_id
+  abbrev pub giver_ring : Giver N g → RingState
+  giver_ring x = record { table = x.ring.seat.table_id; name = giver_name x }
 
-  abbrev pub taker_ring : Taker N g → TableId
-  taker_ring t = t.ring.seat.table_id
+  abbrev pub taker_ring : Taker N g → RingState
+  taker_ring t = record { table = t.ring.seat.table_id; name = taker_name t }
 
 -- a new link's ring is empty
-abbrev pub new_end : LinkQueue → TableId → EndState
+abbrev pub new_end : LinkQueue → RingState → EndState
 new_end q ring = record { queue = q; ring = ring; free = slots_of q.role; calls = 0; plan = None }
 
 -- the same end with another queue
 abbrev pub with_queue : EndState → LinkQueue → EndState
 with_queue e q = record { queue = q; ring = e.ring; free = e.free; calls = e.calls; plan = e.plan }
+
+-- the ring's name is that of its router's link, as it came up last in a list
+abbrev pub IsNamed : List ℕ → List Entry → EndState → Type 0
+IsNamed me h e = FitsRing e.ring.name me e.queue.link h
 
 -- it is the same ring, which was asked for its free slots once more where the event has parcels for the link
 abbrev pub IsAsked : EndState → EndState → Type 0
@@ -104,6 +116,7 @@ pub record IsEntered (me : List ℕ) (h : List Entry) (hub : HubState) (entry : 
   pub queue : queued me h e.queue.link ≡ (queued_by hub entry e.queue).batches
   pub closed : is_among entry.closed e.queue.link ≡ is_closing e
   pub dropped : is_among entry.dropped e.queue.link ≡ is_dropped e
+  pub named : IsNamed me h e
 
 -- how many parcels an event has for a link
 abbrev pub parcels_for : HubState → Event → LinkQueue → ℕ
@@ -129,13 +142,15 @@ pub record GoesByRing (hub : HubState) (entry : Entry) (old new : EndState) : Ty
 abbrev pub GoesByRings : List ℕ → List Entry → Entry → List EndState → List EndState → Type 0
 GoesByRings me h entry old new = AllZip (λ o n. GoesByRing (replay me h).hub entry o n) old new
 
--- the tables are the replay of a list: the router itself, and the queues of the links that are up, in the order in which they came up
+-- the tables are the replay of a list: the router itself, and the queues of the links that are up, in the order in which they came up; and each
+-- ring's name is its link's
 pub record IsReplay (me : List ℕ) (h : List Entry) (hub : HubState) (ends : List EndState) : Type 0 where
   pub hub_is : hub ≡ (replay me h).hub
   pub queues : map (λ e. e.queue) ends ≡ open_queues (replay me h)
+  pub named : AllByRecursion (λ e. IsNamed me h e) ends
 
 -- An event has come after a legal list, and was planned for each link that is up then. Its entry may follow: it names the links whose rings
--- lack room for their plans
+-- lack room for their plans. With it each ring's name is its link's
 pub record MayEnter (me : List ℕ) (h : List Entry) (entry : Entry) (ends : List EndState) : Type 0 where
   pub legal : is_legal me h ≡ true
   pub comes : may_come (replay me h).hub.node entry.event ≡ true
@@ -145,3 +160,4 @@ pub record MayEnter (me : List ℕ) (h : List Entry) (entry : Entry) (ends : Lis
   pub planned : AllByRecursion (λ e. IsPlanned (replay me h).hub entry.event e) ends
   pub dropped : entry.dropped ≡ map (λ e. e.queue.link) (filter (λ e. is_dropped e) ends)
   pub closed : entry.closed ≡ map (λ e. e.queue.link) (filter (λ e. is_closing e) ends)
+  pub named : AllByRecursion (λ e. IsNamed me (h ++ entry ∷ []) e) ends

@@ -1,6 +1,7 @@
 -- What a parcel's note vouches for: that the list of entries which its pass has seen queues these bytes at this place, or ends there.
-use Rattle.std.specs.Prelude.{◌≡◌, ℕ, ◌==◌, ◌&&◌, ◌||◌, Bool, true, false, List, [], ◌∷◌, length, Option, Some, None, slice_get}
+use Rattle.std.specs.Prelude.{◌≡◌, ℕ, ◌+◌, ◌==◌, ◌&&◌, ◌||◌, Bool, true, false, if◌then◌else◌, List, [], ◌∷◌, length, Option, Some, None, slice_get}
 use Rattle.std.proofs.Props.{props}
+use Rattle.zr_ring.specs.declared.name.RingName.{RingName}
 use Rattle.zr_ring.specs.declared.parcel.Note.{Ghosts}
 use Rattle.zr_ring.specs.declared.parcel.Item.{Item}
 use Rattle.zr_ring.specs.declared.parcel.Item.TheVariants.{One, Last}
@@ -10,6 +11,7 @@ use Rattle.zr_msg.specs.declared.event.Event.TheVariants.{Up, Down, From}
 use Rattle.zr_ring.specs.Content.{Content, bytes, end}
 use Rattle.zr_port.specs.declared.entry.Entry.{Entry}
 use Rattle.zr_router_queue.specs.Tables.{is_among, queued}
+use Rattle.zr_router_queue.specs.History.{renews}
 
 -- the reason of a full ring
 abbrev pub full_reason : ℕ
@@ -46,6 +48,21 @@ Vouches me link h (end reason) place = (place ≡ length (queued me h link)) × 
 pub Vouches-prop : (me : List ℕ) (link : LinkNo) (h : List Entry) (c : Content) (k : ℕ) → IsProp (Vouches me link h c k)
 Vouches-prop me link h (bytes b) k = Prim.hlevel props
 Vouches-prop me link h (end reason) k = Prim.hlevel props
+
+-- ---- for which ring it is
+
+-- the place, counted from n, of the last entry that brings a link up; if none does, what was found before
+abbrev pub last_up_from : LinkNo → ℕ → Option ℕ → List Entry → Option ℕ
+last_up_from link n found [] = found
+last_up_from link n found (e ∷ h) = last_up_from link (n + 1) (if renews link e then Some n else found) h
+
+-- how many entries come before the last one that brings a link up
+abbrev pub last_up : LinkNo → List Entry → Option ℕ
+last_up link h = last_up_from link 0 None h
+
+-- A note is for the ring of this name: it is of the same router and link, and in the list of its pass the link came up last where the name says
+abbrev pub FitsRing : RingName → List ℕ → LinkNo → List Entry → Type 0
+FitsRing name me link h = (me ≡ name.router) × (link ≡ name.link) × (last_up link h ≡ Some name.since)
 
 -- ---- what a ring was given
 

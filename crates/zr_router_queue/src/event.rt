@@ -1,7 +1,7 @@
 //! How an event that the router handled is entered: its plans for the links, its entry in the history, and what their rings are given.
 
 ghost use Rattle.std.specs.Prelude.{◌≡◌, ◌<◌, ◌++◌, ℕ, List, [], ◌∷◌, All, IfOk, OnOk, filter, length, map, true};
-ghost use Rattle.std.specs.List.{AllZip};
+ghost use Rattle.std.specs.List.{AllByRecursion, AllZip};
 ghost use mathlib.Core.List.{IsPrefix};
 ghost use Rattle.zr_hist.specs.Words.{IsKeptOf, IsPassOf, IsSameKept, IsSamePass, list_of, most_entries, mine, seen};
 ghost use Rattle.zr_port.specs.Adding.{IsEntryOf};
@@ -10,7 +10,7 @@ ghost use Rattle.zr_told_spec.specs.Hub.{HubState};
 ghost use Rattle.zr_frame_pack.specs.Writable.{IsWritable};
 ghost use Rattle.zr_router_queue.specs.Tables.{open_queues, queued_by, replay};
 ghost use Rattle.zr_router_queue.specs.History.{is_legal};
-ghost use Rattle.zr_router_queue.specs.Ends.{IsAsked, IsEntered, IsPlannedAnew, IsPlannedFor, IsSameRing, IsSettled, MayEnter, is_closing, is_dropped};
+ghost use Rattle.zr_router_queue.specs.Ends.{IsAsked, IsEntered, IsNamed, IsPlannedAnew, IsPlannedFor, IsSameRing, IsSettled, MayEnter, is_closing, is_dropped};
 
 use crate::link_end::LinkSender;
 use crate::scratch::Scratch;
@@ -143,6 +143,7 @@ pub fn enter(
     ensures rings { AllZip (λ old new. IsSameRing old new) ends.old ends.new }
     ensures given { AllZip (λ old new. new.queue ≡ queued_by (replay me (list_of kept.old)).hub entry.now old.queue) ends.old ends.new }
     ensures queues { map (λ x. x.queue) ends.new ≡ open_queues (replay me (list_of kept.new)) }
+    ensures named { AllByRecursion (λ x. IsNamed me (list_of kept.new) x) ends.new }
 {
     history.note(kept, pass, entry);
     settle_all(ends, history, pass, me, entry);

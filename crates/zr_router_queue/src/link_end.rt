@@ -6,7 +6,7 @@ ghost use Rattle.zr_hist.specs.Words.{name, pass_name, IsSamePass, IsPassOf, see
 ghost use Rattle.zr_ring.specs.Content.{end};
 ghost use Rattle.zr_ring.specs.Giver.{sent, is_going, number, slots_of, free_slots};
 ghost use Rattle.zr_ring.specs.Items.{end_of, most_parcels};
-ghost use Rattle.zr_ring.specs.Taker.{taken, take_calls};
+ghost use Rattle.zr_ring.specs.Taker.{taken, taker_name, take_calls};
 ghost use Rattle.zr_node_spec.specs.Event.{on_link};
 ghost use Rattle.zr_frame_pack.specs.Marks as marks;
 ghost use Rattle.zr_frame_pack.specs.Writable.{IsWritable};
@@ -14,7 +14,7 @@ ghost use Rattle.zr_told_spec.specs.Hub.{HubState};
 ghost use Rattle.zr_router_queue.specs.Batches.{written_of};
 ghost use Rattle.zr_router_queue.specs.Tables as tables;
 ghost use Rattle.zr_router_queue.specs.Tables.{is_among, queued, queued_by, new_queue, with_parcels, with_closed};
-ghost use Rattle.zr_router_queue.specs.Note.{batches_of, Vouches, full_reason};
+ghost use Rattle.zr_router_queue.specs.Note.{batches_of, FitsRing, Vouches, full_reason};
 ghost use Rattle.zr_router_queue.specs.Ends.{new_end, with_queue, giver_ring, taker_ring, last_reason, is_dropped, is_closing, IsAsked, IsEntered, IsOver, IsPlanned, IsPlannedFor, IsSameRing};
 
 use crate::link_batches::Batches;
@@ -33,7 +33,7 @@ use zr_msg::msg::Msg;
 use zr_msg::peer::Role;
 use zr_msg::shared::Shared;
 use zr_port::Entry;
-use zr_ring::{Bytes, Giver, Parcel, Taker, ring};
+use zr_ring::{Bytes, Giver, Parcel, RingName, Taker, ring};
 
 /// How many parcels wait for a client at most.
 const CLIENT_SLOTS: u32 = 256;
@@ -106,17 +106,19 @@ pub fn slots_of(role: Role) -> u32
 }
 
 impl LinkSender {
-    /// A link that has come up, and what its writer takes from.
+    /// A link that has come up, as the name of its ring says, and what its writer takes from.
     pub fn new(
         alloc: Global,
-        link: LinkNo,
+        name: RingName,
         role: Role,
         outbox: Outbox,
     ) -> Result<(LinkSender, Taker<Queued>), AllocError>
-        ensures end { IfOk result (λ r. r.0 ≡ new_end (new_queue link role outbox) (taker_ring r.1)) }
+        ensures end { IfOk result (λ r. r.0 ≡ new_end (new_queue name.link role outbox) (taker_ring r.1)) }
+        ensures name { IfOk result (λ r. taker_name r.1 ≡ name) }
         ensures taker { IfOk result (λ r. (taken r.1 ≡ []) × (take_calls r.1 ≡ 0)) }
     {
-        let (giver, taker) = ring(alloc, slots_of(role))?;
+        let link = name.link;
+        let (giver, taker) = ring(alloc, slots_of(role), name)?;
         let outbox = NamingOutbox::new(alloc, outbox);
         let mark = outbox.mark();
         let end = LinkSender {
@@ -288,6 +290,7 @@ impl LinkSender {
     fn give_plan(&mut self, history: &History<Entry>, pass: &mut Pass<Entry>, me: Zid)
         requires open { self.old.queue.closed ≡ None }
         requires pass { IsPassOf history.now pass.old }
+        requires fits { FitsRing self.old.ring.name me self.old.queue.link (seen pass.old) }
         requires room { IfSome self.old.plan (λ p. length p.parcels.batches ≤ self.old.free) }
         requires queued { IfSome self.old.plan (λ p. queued me (seen pass.old) self.old.queue.link ≡ self.old.queue.batches ++ p.parcels.batches) }
         ensures pass { IsSamePass pass.old pass.new × (seen pass.new ≡ seen pass.old) × (mine pass.new ≡ mine pass.old) }
@@ -316,6 +319,7 @@ impl LinkSender {
     )
         requires open { self.old.queue.closed ≡ None }
         requires pass { IsPassOf history.now pass.old }
+        requires fits { FitsRing self.old.ring.name me self.old.queue.link (seen pass.old) }
         requires short { AllByRecursion (λ b. length b ≤ 65535) batches.items }
         requires room { length batches.items ≤ self.old.free }
         requires queued { queued me (seen pass.old) self.old.queue.link ≡ self.old.queue.batches ++ batches.items }
@@ -332,6 +336,7 @@ impl LinkSender {
     fn give_one(&mut self, history: &History<Entry>, pass: &mut Pass<Entry>, me: Zid, bytes: Bytes)
         requires open { self.old.queue.closed ≡ None }
         requires pass { IsPassOf history.now pass.old }
+        requires fits { FitsRing self.old.ring.name me self.old.queue.link (seen pass.old) }
         requires short { length bytes ≤ 65535 }
         requires room { 0 < self.old.free }
         requires queued { (more : List (List ℕ)) × (queued me (seen pass.old) self.old.queue.link ≡ self.old.queue.batches ++ bytes ∷ more) }
@@ -368,6 +373,7 @@ impl LinkSender {
         requires open { self.old.queue.closed ≡ None }
         requires free { closing.free ≡ self.old.free }
         requires vouched { Vouches note.me note.link (seen note.pass) (end (Some full_reason)) (length self.old.queue.batches) }
+        requires fits { FitsRing self.old.ring.name note.me note.link (seen note.pass) }
         ensures { self.new ≡ with_queue self.old (with_closed self.old.queue closing.asked) }
     {
         self.giver.end(Some(FULL), note);
@@ -376,7 +382,8 @@ impl LinkSender {
 
     /// The link has gone down, for the reason where this end has one. The ring, whose giver is the answer, gets its end unless it has one.
     pub fn end(self, reason: Option<u8>, note: Queued) -> Giver<Queued>
-        requires { self.queue.closed ≡ None → Vouches note.me note.link (seen note.pass) (end reason) (length self.queue.batches) }
+        requires vouched { self.queue.closed ≡ None → Vouches note.me note.link (seen note.pass) (end reason) (length self.queue.batches) }
+        requires fits { FitsRing self.ring.name note.me note.link (seen note.pass) }
         ensures ring { giver_ring result ≡ self.ring }
         ensures given { batches_of (sent result) ≡ self.queue.batches }
         ensures ended { end_of (sent result) ≡ Some (last_reason self.queue.closed reason) }

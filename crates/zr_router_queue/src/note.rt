@@ -21,11 +21,13 @@ pub struct Queued {
 
 impl Note for Queued {
     ghost use Rattle.zr_hist.specs.Words.{seen};
-    ghost use Rattle.zr_router_queue.specs.Note.{Vouches, Vouches-prop};
+    ghost use Rattle.zr_router_queue.specs.Note.{FitsRing, Vouches, Vouches-prop};
 
     ghost vouches = { λ n c k. Vouches n.me n.link (seen n.pass) c k };
 
     ghost is_fact = { λ n c k. Vouches-prop n.me n.link (seen n.pass) c k };
+
+    ghost fits = { λ name n. FitsRing name n.me n.link (seen n.pass) };
 }
 
 /// What any thread knows of a parcel that it took: its bytes are what that list queues at its place.

@@ -2,7 +2,7 @@
 ghost use Rattle.std.specs.Prelude.{◌≡◌, ◌+◌, [], true, IfOk};
 ghost use Rattle.zr_ring.specs.Giver.{is_going, number, sent};
 
-use crate::note::{Anything, parcels};
+use crate::note::{Anything, parcels, ring_name};
 use std::alloc::{AllocError, Global};
 use zr_bytes::ByteString;
 use zr_msg::shared::Shared;
@@ -19,7 +19,7 @@ pub struct Giving {
 impl Giving {
     /// A new ring, with room for so many parcels.
     pub fn ring(alloc: Global, slots: u32) -> Result<(Giving, Taker<Anything>), AllocError> {
-        let (giver, taker) = ring::<Anything>(alloc, slots)?;
+        let (giver, taker) = ring::<Anything>(alloc, slots, ring_name()?)?;
         Ok((Giving { giver, next: 0 }, taker))
     }
 

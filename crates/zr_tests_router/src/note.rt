@@ -4,10 +4,12 @@ ghost use Rattle.zr_ring.specs.Items.{GoOnFrom};
 
 use std::alloc::{AllocError, Global};
 use zr_bytes::ByteString;
+use zr_id::link::LinkNo;
+use zr_id::zid::Zid;
 use zr_msg::shared::Shared;
-use zr_ring::{Bytes, Note, Parcel, Queue};
+use zr_ring::{Bytes, Note, Parcel, Queue, RingName};
 
-/// It vouches for everything.
+/// It vouches for everything, in every ring.
 #[derive(Drop)]
 pub struct Anything;
 
@@ -17,6 +19,20 @@ impl Note for Anything {
     ghost vouches = { λ _ _ _. Unit {0} };
 
     ghost is_fact = { λ _ _ _. Unit-prop };
+
+    ghost fits = { λ _ _. Unit {0} };
+}
+
+/// The name of a ring, of which the tests know but one.
+pub fn ring_name() -> Result<RingName, AllocError> {
+    match Zid::from_bytes(&[1]) {
+        Ok(router) => Ok(RingName {
+            router,
+            link: LinkNo(0),
+            since: 0,
+        }),
+        Err(_) => Err(AllocError),
+    }
 }
 
 /// A link, for which a list of numbers queues those of its parity.

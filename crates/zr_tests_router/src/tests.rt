@@ -1,5 +1,5 @@
 use crate::giving::Giving;
-use crate::note::{Anything, Link, parcels};
+use crate::note::{Anything, Link, parcels, ring_name};
 use crate::threads::{PARCELS, relay};
 use crate::turns::{PLACES, places_alike};
 use std::alloc::{AllocError, Global};
@@ -74,7 +74,7 @@ fn is_taken(took: Took<Anything>, place: Option<u64>, reason: Option<u8>) -> boo
 fn given_and_taken(alloc: Global) -> Result<[bool; 9], AllocError> {
     let three = parcels(alloc, 0, 3)?;
     let two = parcels(alloc, 0, 2)?;
-    let (mut giver, mut taker) = ring::<Anything>(alloc, 2)?;
+    let (mut giver, mut taker) = ring::<Anything>(alloc, 2, ring_name()?)?;
     let nothing = is_taken(taker.take(), None, None);
     let too_many = giver.give(three).is_err();
     let enough = giver.give(two).is_ok();

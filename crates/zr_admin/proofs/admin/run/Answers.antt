@@ -18,7 +18,7 @@ loop-preserved g c =
     let s = c.step-stepped in
     let inv = c.loop.invariant in
     record {
-      same = ((s.ensures.same.0.0 ∙ inv.same.0.0, s.ensures.same.0.1 ∙ inv.same.0.1), s.ensures.same.1 ∙ inv.same.1);
+      same = ((s.ensures.same.0.0 ∙ inv.same.0.0, s.ensures.same.0.1 ∙ inv.same.0.1), (s.ensures.same.1.0 ∙ inv.same.1.0, s.ensures.same.1.1 ∙ inv.same.1.1));
       calls = omega (arith, s.ensures.called, inv.calls);
       made = one_made c.args.link (λ h m e. g.P.Port.refuses_message c.args.port.now h c.args.link m e) (λ h. g.P.Glancing.glance_of c.args.port.now h) c.args.id c.loop.counter s.result
           (inner_at (taken c.args.taker.now) c.args.hearing.now (sight c.args.pass.now)) (inner_at (taken c.loop.taker) c.loop.hearing (sight c.loop.pass))

@@ -1,11 +1,12 @@
 use Rattle.std.proofs.Common.{◌≡◌, true, get_or, sym, ap, subst, ◌∙◌}
+use Rattle.std.specs.List.{AllByRecursion}
 use Rattle.std.proofs.lemmas.List.Elements.{All-from_recursion}
 use Rattle.zr_hist.specs.Words.{list_of}
 use Rattle.zr_router_queue.specs.Tables.{open_queues, replay}
 use Rattle.zr_router_queue.specs.History.{is_legal}
-use Rattle.zr_router_queue.specs.Ends.{IsEntered, IsSameRing, IsSettled}
+use Rattle.zr_router_queue.specs.Ends.{IsEntered, IsNamed, IsSameRing, IsSettled}
 use Rattle.zr_router_queue.proofs.Stepped.{zip_so}
-use Rattle.zr_router_queue.proofs.Entering.{each_entered, each_given, legal_entered, queues_entered}
+use Rattle.zr_router_queue.proofs.Entering.{each_entered, each_given, legal_entered, names_entered, queues_entered}
 use Rattle.zr_router_queue.proofs.event.enter.Goals as goal
 
 pub settle_all-requires-clause-entered : goal.settle_all-requires-clause-entered
@@ -30,3 +31,8 @@ returns-clause-rings c = zip_so (λ old new. IsSettled c.args.entry.now old new)
 
 pub returns-clause-given : goal.returns-clause-given
 returns-clause-given c = each_given (replay c.args.me (list_of c.args.kept.now)).hub c.args.entry.now c.args.ends.now c.settle_all.new.ends c.requires.may.planned c.settle_all.ensures.each
+
+pub returns-clause-named : goal.returns-clause-named
+returns-clause-named c =
+    subst (λ l. AllByRecursion (λ x. IsNamed c.args.me l x) c.settle_all.new.ends) (sym c.note.ensures.list)
+    (names_entered c.args.me (list_of c.args.kept.now) c.args.entry.now c.args.ends.now c.settle_all.new.ends c.requires.may c.settle_all.ensures.each)

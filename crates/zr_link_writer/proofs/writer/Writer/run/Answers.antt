@@ -11,7 +11,7 @@ use Rattle.zr_link_writer.proofs.writer.Writer.run.Goals as goal
 pub loop-init : goal.loop-init
 loop-init g c = (
   omega arith,
-  refl,
+  (refl, refl),
   refl,
   omega (arith, c.new-joined.ensures.now),
   omega (arith, c.new-joined.ensures.now.1),

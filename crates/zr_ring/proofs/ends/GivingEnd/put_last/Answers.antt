@@ -38,3 +38,9 @@ returns-clause-known g c =
     let bare = ap rest (c.args.self.now.holds.0 c.requires.going) in
     let now = gave_last_facts c.args.self.now.seat.me _ _ c.deref-2.result.now.shared.table_id.slots _ (c.args.self.now.count + 1) c.args.x c.exchange.ensures.3 bare c.store.ensures.2 in
     (ap (λ d. d.giver.known) now.0, ap (λ d. d.giver.loads) now.0)
+
+pub returns-clause-same : goal.returns-clause-same
+returns-clause-same g c =
+    let bare = ap rest (c.args.self.now.holds.0 c.requires.going) in
+    let now = gave_last_facts c.args.self.now.seat.me _ _ c.deref-2.result.now.shared.table_id.slots _ (c.args.self.now.count + 1) c.args.x c.exchange.ensures.3 bare c.store.ensures.2 in
+    ((search rules, refl, ap (λ d. d.giver.name) now.0), refl)

@@ -26,6 +26,6 @@ store-requires g c =
     let bare = ap rest got.3 ∙ ap (λ m. m.1) was.knows in (
       search rules,
       search rules,
-      takes_one_here _ _ _ c.load-given.new.seat.me _ _ was.count _ c.exchange-item.ensures.3 (is_taker_view _ _ _ _ _ got.2 ∙ ap (λ b. taker_view (end_view b c.load-given.new.seat.me.0.taker.list c.load-given.new.seat.me.0.taker.known c.load-given.new.seat.me.0.taker.loads)) (ap (λ d. d.taker.holds) got.2)) bare
+      takes_one_here _ _ _ c.load-given.new.seat.me _ _ was.count _ c.exchange-item.ensures.3 (is_taker_view _ _ _ _ _ got.2 ∙ ap (λ b. taker_view (end_view c.load-given.new.seat.me.0.taker.name b c.load-given.new.seat.me.0.taker.list c.load-given.new.seat.me.0.taker.known c.load-given.new.seat.me.0.taker.loads)) (ap (λ d. d.taker.holds) got.2)) bare
           (ap length list ∙ length-append was.seat.me.0.taker.list (got.0 ∷ []) ∙ sym (ap (λ n. n + 1) counted)) (search rules) refl,
     )

@@ -17,6 +17,7 @@ use Rattle.zr_router.specs.declared.failure.Failure.TheVariants.{Refused}
 use Rattle.zr_router.specs.Refusals.{RefusesMessage, is_worn, node_refusal}
 use Rattle.zr_access.specs.Rules.{is_open}
 use Rattle.zr_router.proofs.Entered.{added, added_beside, handled}
+use Rattle.zr_router.proofs.OpenEnds.{names_from}
 use Rattle.zr_router.proofs.Refused.{closed_at, message_allowed, message_admitted, message_comes, message_judged, message_node, message_refused, message_room, never_memory, node_never_memory, replay_awake}
 use Rattle.zr_router.proofs.tables.Tables.deliver.Goals as goal
 
@@ -75,6 +76,7 @@ enter-requires-clause-handled g c =
     (l.spelled open_now) c.requires.spelled refl q.queues
     (subst (λ x. length x < most_entries) (sym kept)
     (c.in-Ok.ensures.room (sym w ∙ message_room pol me h l.hub l.ends.items r c.args.link c.args.msg p k at shut none)))
+    (names_from me (list_of n.kept) l.hub n.ends.items q c.args.link c.args.msg)
 
 pub enter-requires-clause-former : goal.enter-requires-clause-former
 enter-requires-clause-former g c =

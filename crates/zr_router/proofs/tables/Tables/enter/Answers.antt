@@ -1,9 +1,9 @@
 use Rattle.std.proofs.Common.{◌≡◌, true, List, map, sym, subst, ◌∙◌, arith}
 use Rattle.std.specs.Prelude.{◌||◌}
-use Rattle.std.specs.List.{AllZip}
+use Rattle.std.specs.List.{AllByRecursion, AllZip}
 use Rattle.zr_hist.specs.Words.{list_of}
 use Rattle.zr_node_spec.specs.Event.{on_link}
-use Rattle.zr_router_queue.specs.Ends.{EndState, GoesByRings, IsAsked, IsPlannedFor, IsReplay, MayEnter}
+use Rattle.zr_router_queue.specs.Ends.{EndState, GoesByRings, IsAsked, IsNamed, IsPlannedFor, IsReplay, MayEnter}
 use Rattle.zr_router_queue.specs.Held.{ComesSpelled}
 use Rattle.zr_router_queue.specs.History.{is_legal}
 use Rattle.zr_router_queue.specs.Tables.{open_queues, queued_by, replay}
@@ -24,6 +24,7 @@ enter-requires-clause-may g c =
     (may_enter g.B.Naming.me (list_of t.kept) t.hub t.ends.items c.prepare.new.ends c.args.arrival.event c.args.arrival.outbox c.args.arrival.reason c.args.sent.now c.in_ok-entry.entry
     t.legal c.requires.handled
     (subst (λ (xs : List EndState). AllZip (λ (old new : EndState). (new.queue ≡ old.queue) × IsPlannedFor (on_link old.queue.link c.args.sent.now) new) xs c.prepare.new.ends) c.as_mut_slice-ends.ensures.value e.each)
+    (subst (λ (xs : List EndState). AllZip (λ (old new : EndState). IsAsked old new) xs c.prepare.new.ends) c.as_mut_slice-ends.ensures.value e.asked)
     e.entry e.dropped e.closed)
 
 pub invariant_of-self-2 : goal.invariant_of-self-2
@@ -48,7 +49,8 @@ invariant_of-self-2 g c =
           (sym (written_over t.ends.len c.enter.new.ends _ (omega (arith, c.enter.auto.ends, c.prepare.auto.ends, c.as_mut_slice-ends.ensures.len))))
           (entered g.B.Naming.me (list_of t.kept) t.hub t.ends.items c.enter.new.ends c.args.arrival.event c.args.arrival.outbox c.args.arrival.reason c.args.sent.now c.in_ok-entry.entry
           (list_of c.enter.new.kept) c.requires.handled c.in_ok-entry.ensures.entry c.enter.ensures.list
-          (subst (λ m. map (λ (x : EndState). x.queue) c.enter.new.ends ≡ open_queues (replay m (list_of c.enter.new.kept))) t.own c.enter.ensures.queues));
+          (subst (λ m. map (λ (x : EndState). x.queue) c.enter.new.ends ≡ open_queues (replay m (list_of c.enter.new.kept))) t.own c.enter.ensures.queues)
+          (subst (λ m. AllByRecursion (λ x. IsNamed m (list_of c.enter.new.kept) x) c.enter.new.ends) t.own c.enter.ensures.named));
       spelled = λ _. c.requires.handled.spelled;
     }
 
@@ -63,7 +65,7 @@ returns-clause-added g c =
     c.as_mut_slice-ends.ensures.value e.each in
     let asked = subst (λ (xs : List EndState). AllZip (λ (old new : EndState). IsAsked old new) xs c.prepare.new.ends) c.as_mut_slice-ends.ensures.value e.asked in
     let given = subst (λ m. AllZip (λ (old new : EndState). new.queue ≡ queued_by (replay m h).hub entry old.queue) c.prepare.new.ends c.enter.new.ends) t.own c.enter.ensures.given in
-    let may = may_enter me h t.hub t.ends.items c.prepare.new.ends c.args.arrival.event c.args.arrival.outbox c.args.arrival.reason c.args.sent.now entry t.legal c.requires.handled each
+    let may = may_enter me h t.hub t.ends.items c.prepare.new.ends c.args.arrival.event c.args.arrival.outbox c.args.arrival.reason c.args.sent.now entry t.legal c.requires.handled each asked
     e.entry e.dropped e.closed in
     let rings = goes_by_rings me h entry t.ends.items c.prepare.new.ends c.enter.new.ends may
     (zip_so (λ (old new : EndState). (new.queue ≡ old.queue) × IsPlannedFor (on_link old.queue.link c.args.sent.now) new) (λ (old new : EndState). new.queue ≡ old.queue)

@@ -17,4 +17,4 @@ pub returns : goal.returns
 returns c =
     let was : is_going c.self.inside.giver ≡ true = c.self.inside.going ∙ none_of (λ d. d.asked) c.self.inside.closed (ap (λ e. e.queue.closed) c.self.view_is ∙ c.requires.open) in
     let same = (given_end c.self.inside.giver c.end.new.self (Some 0) c.args.note was c.end.ensures.same.1 c.end.ensures.given c.self.inside.numbered).0 in
-    rw (← c.self.view_is, same, c.end.ensures.loaded.1, c.end.ensures.same.0.0) refl
+    rw (← c.self.view_is, same, c.end.ensures.loaded.1, c.end.ensures.same.0.0, c.end.ensures.same.0.2) refl

@@ -1,9 +1,11 @@
 use Rattle.std.proofs.Common.{◌≡◌, ◌<◌, ◌∷◌, [], true, length, option_map, ap, subst, ◌∙◌, sym, arith}
+use Rattle.zr_hist.specs.Words.{seen}
 use Rattle.zr_ring.specs.Giver.{is_going, sent}
 use Rattle.zr_ring.specs.Items.{end_of}
 use Rattle.zr_ring.proofs.Items.{end_of_one}
 use Rattle.zr_frame_pack.specs.Marks.{at_mark}
 use Rattle.zr_router_queue.specs.Ends.{EndState}
+use Rattle.zr_router_queue.specs.Note.{FitsRing}
 use Rattle.zr_router_queue.specs.Tables.{with_parcels}
 use Rattle.zr_router_queue.proofs.Batches.{given_more, none_of, none_too, stands_next}
 use Rattle.zr_router_queue.proofs.link_end.LinkSender.give_one.Goals as goal
@@ -56,3 +58,9 @@ returns-clause-queue c =
     ap (λ bs. record { link = c.self.inside.link; role = c.self.inside.role; is_up = true; outbox = at_mark c.self.inside.outbox c.self.inside.mark; batches = bs; closed = option_map (λ d. d.asked) c.self.inside.closed })
     more.0
     ∙ ap (λ e. with_parcels e.queue (record { batches = c.args.bytes ∷ []; outbox = e.queue.outbox })) c.self.view_is
+
+pub give_one-requires-clause-fits : goal.give_one-requires-clause-fits
+give_one-requires-clause-fits c =
+    let note = c.note-note.ensures.note in
+    let here = subst (λ (e : EndState). FitsRing e.ring.name c.args.me c.args.self.now.queue.link (seen c.args.pass.now)) (sym c.self.view_is) c.requires.fits in
+    rw (note.0, note.1, note.2) here

@@ -3,7 +3,7 @@ use Rattle.std.proofs.Common.{◌≡◌, ◌≤◌, ◌++◌, ◌∷◌, [], Som
 use Rattle.zr_hist.specs.Words.{seen}
 use Rattle.zr_ring.specs.Giver.{sent}
 use Rattle.zr_router_queue.specs.Batches.{batches_in}
-use Rattle.zr_router_queue.specs.Note.{batches_of}
+use Rattle.zr_router_queue.specs.Note.{FitsRing, batches_of}
 use Rattle.zr_router_queue.specs.Ends.{EndState}
 use Rattle.zr_router_queue.specs.Planned.{planned}
 use Rattle.zr_router_queue.specs.Tables.{queued}
@@ -70,3 +70,9 @@ returns-in-Several-clause-queue c =
     (ap (λ b. record { batches = batches_in b; outbox = o }) c.in-Several.is)
     (outbox_is _ _ _ _ (ap (λ (e : EndState). e.queue) c.self.view_is) c.mark-self-inside.ensures.outbox)
     c.give_all.ensures.queue
+
+pub give_one-requires-clause-fits : goal.give_one-requires-clause-fits
+give_one-requires-clause-fits c = subst (λ (e : EndState). FitsRing e.ring.name c.args.me e.queue.link (seen c.args.pass.now)) (sym c.self.view_is) c.requires.fits
+
+pub give_all-requires-clause-fits : goal.give_all-requires-clause-fits
+give_all-requires-clause-fits c = subst (λ (e : EndState). FitsRing e.ring.name c.args.me e.queue.link (seen c.args.pass.now)) (sym c.self.view_is) c.requires.fits

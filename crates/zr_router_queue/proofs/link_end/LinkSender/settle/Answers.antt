@@ -3,6 +3,7 @@ use Rattle.std.proofs.Common.{◌≡◌, true, false, Some, option_map, refl, sy
 use Rattle.zr_hist.specs.Words.{seen}
 use Rattle.zr_router_queue.specs.Tables.{is_among}
 use Rattle.zr_router_queue.specs.Ends.{EndState, IsEntered}
+use Rattle.zr_router_queue.specs.Note.{FitsRing}
 use Rattle.zr_router_queue.specs.Planned.{planned}
 use Rattle.zr_router_queue.proofs.Planning.{of_plan, plan_is}
 use Rattle.zr_router_queue.proofs.Settling.{closed_vouched, given_queued, given_room}
@@ -47,3 +48,12 @@ give_plan-requires-clause-room c =
     (given_room c.args.me (seen c.args.pass.now) en.0 c.args.entry.now now p en.1 plan (sym (ap (λ (e : EndState). e.queue.is_up) c.self.view_is))
     (subst (λ (e : EndState). is_among c.args.entry.now.closed e.queue.link ≡ false) c.self.view_is other)
     (subst (λ (e : EndState). is_among c.args.entry.now.dropped e.queue.link ≡ false) c.self.view_is neither))
+
+pub give_plan-requires-clause-fits : goal.give_plan-requires-clause-fits
+give_plan-requires-clause-fits c = c.requires.entered.1.named
+
+pub close-requires-clause-fits : goal.close-requires-clause-fits
+close-requires-clause-fits c =
+    let note = c.note-note.ensures.note in
+    let here = subst (λ (e : EndState). FitsRing e.ring.name c.args.me e.queue.link (seen c.args.pass.now)) (sym c.self.view_is) c.requires.entered.1.named in
+    rw (note.0, note.1, note.2) here
