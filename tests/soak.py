@@ -133,6 +133,12 @@ def held(routers):
     return [router.threads()[1] for router in routers]
 
 
+def ended(routers):
+    """What is to be told of routers that have ended."""
+    statuses = [(router, router.process.poll()) for router in routers]
+    return [f"router {router.ident} ended with {status} by {time.ctime()}: {router.told_yet()!r}" for router, status in statuses if status is not None]
+
+
 def soak(seconds):
     """Runs for so long; fails where anything is lost, doubled or out of its place, or memory grows."""
     with Router("01") as first, Router("02", first) as second:
@@ -147,7 +153,7 @@ def soak(seconds):
             begun.acquire()
         began = time.monotonic()
         warm, seen, failed = None, collections.Counter(), []
-        while time.monotonic() < began + seconds and results.empty():
+        while time.monotonic() < began + seconds and results.empty() and all(router.process.poll() is None for router in routers):
             time.sleep(min(1, seconds / 20))
             if warm is None and time.monotonic() > began + seconds * WARM:
                 warm = held(routers)
@@ -156,8 +162,11 @@ def soak(seconds):
             counts, fault = results.get(timeout=3 * PATIENCE)
             seen += counts
             failed += [fault] if fault else []
-        now = held(routers)
         print(f"in {time.monotonic() - began:.0f} s: {', '.join(f'{count:,} {what}' for what, count in sorted(seen.items()))}; {len(failed)} faults")
+        failed += ended(routers)
+        if failed:
+            raise Wrong("; ".join(failed))
+        now = held(routers)
         print(f"KiB held once warm: {warm}, at the end: {now}", flush=True)
-        if failed or any(b > a + MORE_MEMORY for a, b in zip(warm or now, now)):
-            raise Wrong("; ".join(failed) or "memory grew")
+        if any(b > a + MORE_MEMORY for a, b in zip(warm or now, now)):
+            raise Wrong("memory grew")

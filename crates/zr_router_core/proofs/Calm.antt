@@ -12,7 +12,7 @@ use Rattle.zr_local.specs.Clients.{interests_on}
 use Rattle.zr_node_spec.specs.Tables.{TableState, leads_to_client}
 use Rattle.zr_node_spec.specs.State.{NodeState, tables}
 use Rattle.zr_told_spec.specs.Hub.{HubState, asking_of, asking_on, tells_with, told_with, sends_told, told_after, by_link}
-use Rattle.zr_told_spec.specs.Rows.{Maps, map_on, others, IsAsWanted, tells_changes, told_changes}
+use Rattle.zr_told_spec.specs.Rows.{Maps, map_on, others, IsAsWanted}
 use Rattle.zr_told_spec.specs.Told.{ToldMap}
 use Rattle.zr_told_spec.proofs.Events.{nothing_is_told, nothing_told}
 use Rattle.zr_router_core.specs.Calm.{IsCalm}
