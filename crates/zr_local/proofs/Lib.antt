@@ -6,3 +6,4 @@ pub mod Steps
 pub mod Leads
 pub mod Left
 pub mod Live
+pub mod Held

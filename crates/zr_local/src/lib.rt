@@ -5,6 +5,7 @@
 pub mod changes;
 pub mod clients;
 pub mod error;
+pub mod holder;
 pub mod interest;
 pub mod laws;
 mod leaving;

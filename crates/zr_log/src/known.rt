@@ -5,6 +5,7 @@ ghost use Rattle.std.specs.Option.{option_copied};
 ghost use Rattle.zr_id.specs.Zid.{is_named};
 ghost use Rattle.zr_log.specs.Known.{AreInOrder, IsRefusedAs, sources, log_of, position, decls, with_log, nothing_known, after_own, refuses_own, is_next, is_newer, after_step, after_snap, refuses_step, refuses_snap, refusal, over_limit};
 ghost use Rattle.zr_log.specs.Log.{changed, change_held};
+ghost use Rattle.zr_log_set.specs.Decls.{IsSet};
 
 use crate::error::KnownError;
 use crate::log::{self, Log};
@@ -95,8 +96,11 @@ impl Known {
 
     /// What a router's clients declare after these changes, in ascending order.
     pub fn decls(&self, source: Zid) -> &[Decl]
-        ensures { result.now ≡ decls self.now source }
+        ensures value { result.now ≡ decls self.now source }
+        ensures set { IsSet result.now }
+        ensures in_order { AreInOrder self.now }
     {
+        let _known = &self.logs; // read, so that the proof knows that they are in order
         match self.log_of(&source) {
             Some(log) => log.decls.as_slice(),
             None => &[],

@@ -5,6 +5,7 @@ pub mod Downs
 pub mod Early
 pub mod Free
 pub mod Handled
+pub mod HeldAfter
 pub mod Judged
 pub mod Logged
 pub mod Messages

@@ -3,6 +3,8 @@
 ghost use Rattle.std.specs.Prelude.{◌≡◌, ℕ, List, Option, Some, None, false, true, OnOk, OnErr};
 ghost use Rattle.zr_node.specs.Requests.{refuses_asker};
 ghost use Rattle.zr_push.specs.Routes.{AreRoutes};
+ghost use Rattle.zr_push_sought.specs.Holders.{HoldJust};
+ghost use Rattle.zr_push_sought.specs.Pairs.{declared_by};
 ghost use Rattle.zr_pend_spec.specs.Pending.{asked};
 ghost use Rattle.zr_node_spec.specs.Queries.{after_request, asked_links, gathering_if, has_no_number, sends_request};
 ghost use Rattle.zr_node_spec.specs.Samples.{tree_of};
@@ -20,7 +22,9 @@ use zr_node_spec::tables::TablesView;
 use zr_pend::pending::Pending;
 use zr_pend_spec::branch::Asker;
 use zr_push::push::tree_of;
+use zr_push::route::Route;
 use zr_push::routes::Routes;
+use zr_push_sought::holders::Holders;
 use zr_push_sought::sought::sought_by;
 use zr_query::asking::{RequestError, refuse, request};
 
@@ -46,6 +50,7 @@ pub fn refusal(pending: &Pending, from: Asker, is_client: bool) -> Option<NodeEr
 pub fn ask(
     alloc: Global,
     tables: &TablesView,
+    holders: &mut Holders,
     routes: &mut Routes,
     pending: &mut Pending,
     from: Asker,
@@ -56,10 +61,12 @@ pub fn ask(
     latest: bool,
     out: &mut Vec<(LinkNo, Msg)>,
 ) -> Result<(), RequestError>
+    requires holders { HoldJust (declared_by tables.now) holders.old }
     requires routes { AreRoutes routes.old tables.now }
     requires numbered { AreNumbered tables.now.links }
     requires fresh { asked from pending.old.rows ≡ false }
     requires at { link_at tables.now.links from.link.0 ≡ link }
+    ensures holders { HoldJust (declared_by tables.now) holders.new }
     ensures routes { AreRoutes routes.new tables.now }
     ensures sends { OnOk result (Tells (sends_request tables.now pending.old.rows from.link.0 named from.number target content.now) out.old.items out.new.items) }
     ensures rows { OnOk result (pending.new.rows ≡ after_request tables.now pending.old.rows from.link.0 named from.number target content.now.key) }
@@ -71,7 +78,7 @@ pub fn ask(
 {
     match tree_for(tables, link, named) {
         Some(tree) => request_along(
-            alloc, tables, routes, pending, from, tree, target, content, latest, out,
+            alloc, tables, holders, routes, pending, from, tree, target, content, latest, out,
         ),
         None => Ok(refuse(alloc, from, out)?),
     }
@@ -89,6 +96,7 @@ fn tree_for(tables: &TablesView, link: Option<LinkPeer>, named: Option<Zid>) -> 
 fn request_along(
     alloc: Global,
     tables: &TablesView,
+    holders: &mut Holders,
     routes: &mut Routes,
     pending: &mut Pending,
     from: Asker,
@@ -98,9 +106,11 @@ fn request_along(
     latest: bool,
     out: &mut Vec<(LinkNo, Msg)>,
 ) -> Result<(), RequestError>
+    requires holders { HoldJust (declared_by tables.now) holders.old }
     requires routes { AreRoutes routes.old tables.now }
     requires numbered { AreNumbered tables.now.links }
     requires fresh { asked from pending.old.rows ≡ false }
+    ensures holders { HoldJust (declared_by tables.now) holders.new }
     ensures routes { AreRoutes routes.new tables.now }
     ensures sends { (named : Option (List ℕ)) → tree_of tables.now (link_at tables.now.links from.link.0) named ≡ Some tree → OnOk result (Tells (sends_request tables.now pending.old.rows from.link.0 named from.number target content.now) out.old.items out.new.items) }
     ensures rows { (named : Option (List ℕ)) → tree_of tables.now (link_at tables.now.links from.link.0) named ≡ Some tree → OnOk result (pending.new.rows ≡ after_request tables.now pending.old.rows from.link.0 named from.number target content.now.key) }
@@ -117,7 +127,7 @@ fn request_along(
             alloc, route, pending, from, tree, target, content, latest, out,
         );
     }
-    let route = routes.work_out(alloc, tables, tree, sought, key)?;
+    let route = Route::found(alloc, tables, holders, tree, sought, key)?;
     request(
         alloc, &route, pending, from, tree, target, content, latest, out,
     )?;

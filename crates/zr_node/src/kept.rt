@@ -73,7 +73,7 @@ pub fn forget(family: &mut Option<Family>, trees: &mut Option<Trees>, routes: &m
 {
     *family = None;
     *trees = None;
-    routes.clear();
+    routes.forget();
 }
 
 /// What a router goes by, lent.

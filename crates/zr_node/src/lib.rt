@@ -5,6 +5,7 @@
 mod asked;
 mod asking;
 mod failure;
+mod holding;
 mod interests;
 mod kept;
 mod links;

@@ -31,6 +31,7 @@ mod traffic;
 
 use crate::asked::{self, Asked, apply, has_room};
 use crate::failure::{NodeFailure, lacking};
+use crate::holding;
 use crate::kept::{Before, forget, put_family, put_trees, take_family};
 use crate::links::Links;
 use std::alloc::{AllocError, Global};
@@ -55,6 +56,7 @@ use zr_msg::peer::{LinkPeer, Peer};
 use zr_msg::shared::Shared;
 use zr_pend::pending::Pending;
 use zr_push::routes::Routes;
+use zr_push_sought::holders::Holders;
 use zr_tree::family::Family;
 use zr_tree::trees::Trees;
 
@@ -72,6 +74,8 @@ pub struct Node {
     // its children in all trees, and these trees, each if they were worked out since the edges last changed; no contract sees them
     family: Option<Family>,
     trees: Option<Trees>,
+    // who has declared what, by what its clients and the logs of others have now; no contract sees them
+    holders: Holders,
     // where earlier samples and requests went by what the node is now; no contract sees them
     routes: Routes,
     spent: bool,
@@ -88,6 +92,7 @@ impl Drop for Node {
             pending: _pending,
             family: _family,
             trees: _trees,
+            holders: _holders,
             routes: _routes,
             spent: _spent,
         } = self;
@@ -102,7 +107,7 @@ impl Model for Node {
 
     ghost view = { λ n. record { links = n.links; base = n.base; rows = n.local.rows; clients = n.local.clients; known = n.known; pending = n.pending.rows; held = n.pending.held; spent = n.spent } };
 
-    ghost invariant = { λ n. IsWhole (record { links = n.links; base = n.base; rows = n.local.rows; clients = n.local.clients; known = n.known }) n.family n.trees n.routes };
+    ghost invariant = { λ n. IsWhole (record { links = n.links; base = n.base; rows = n.local.rows; clients = n.local.clients; known = n.known }) n.family n.trees n.holders n.routes };
 }
 
 impl Node {
@@ -119,6 +124,7 @@ impl Node {
             pending: Pending::new(alloc),
             family: None,
             trees: None,
+            holders: Holders::new(),
             routes: Routes::new(alloc),
             spent: false,
         })
@@ -167,6 +173,7 @@ impl Node {
             pending,
             family: None,
             trees: None,
+            holders: Holders::new(),
             routes: Routes::new(alloc),
             spent: self.spent,
         })
@@ -398,8 +405,8 @@ impl Node {
         ensures refused { IsJudged (refuses_asked (local_state self.old) asked) result }
         ensures unchanged { OnErr result (self.new ≡ self.old) }
     {
-        self.routes.clear(); // the client may stand on any of them
-        apply(&mut self.local, asked)
+        self.routes.forget(); // the client may stand on any of them
+        holding::apply(&mut self.local, &mut self.holders, asked)
     }
 
     // What has changed goes to the children in the own tree, and stands in the own log.
@@ -443,8 +450,8 @@ impl Node {
     fn log(&mut self, changes: &Changes) -> Result<(), AllocError>
         ensures { OnOk result (self.new ≡ with_known self.old (after_changes self.old.known (changes_of changes.now.gone.items changes.now.came.items))) }
     {
-        self.routes.clear(); // they are of the logs so far
-        asked::log(&mut self.known, changes)
+        self.routes.forget(); // they are of the logs so far
+        holding::log(&mut self.known, &mut self.holders, changes)
     }
 
     // A record has come over a link: a newer one of a router is kept, and goes on.
@@ -506,8 +513,17 @@ impl Node {
         if !self.leads_to_router(link) {
             return Ok(());
         }
-        self.routes.clear(); // they are of the logs so far
-        match self.known.step(source, number, added, decl)? {
+        self.routes.forget(); // they are of the logs so far
+        let me = self.base.me();
+        match holding::step(
+            me,
+            &mut self.known,
+            &mut self.holders,
+            source,
+            number,
+            added,
+            decl,
+        )? {
             Taken::Old => Ok(()),
             Taken::New => Ok(self.pass_on(alloc, source, msg, out)?),
         }
@@ -530,8 +546,16 @@ impl Node {
         if !self.leads_to_router(link) {
             return Ok(());
         }
-        self.routes.clear(); // they are of the logs so far
-        match self.known.snap(source, number, decls.as_slice())? {
+        self.routes.forget(); // they are of the logs so far
+        let me = self.base.me();
+        match holding::snap(
+            me,
+            &mut self.known,
+            &mut self.holders,
+            source,
+            number,
+            decls.as_slice(),
+        )? {
             Taken::Old => Ok(()),
             Taken::New => Ok(self.pass_on(alloc, source, msg, out)?),
         }

@@ -1,3 +1,2 @@
 pub mod Route
 pub mod Routes
-pub mod Searches

@@ -4,14 +4,8 @@ use Rattle.std.specs.BTreeMap.{get}
 use Rattle.std.specs.Ordering.{nat_cmp}
 use Rattle.zr_node_spec.specs.Tables.{TableState}
 use Rattle.zr_push.specs.Route.{route_of}
-use Rattle.zr_push.specs.Searches.{AreSearches}
 use Rattle.zr_push.specs.declared.routes.Routes.{Routes}
-use Rattle.zr_push_sought.specs.declared.sought.Sought.TheVariants.{Subscribers, Queryables}
 
--- each route that is remembered is that of its tree, what is sought and its key by these tables, and so is what is known of all subscribers
--- and of all queryables
+-- each route that is remembered is that of its tree, what is sought and its key by these tables
 abbrev pub AreRoutes : Routes → TableState → Type 0
-AreRoutes routes t =
-    ((n : ℕ) → IfSome (get nat_cmp routes.known n) (λ r. r.route ≡ route_of t r.tree r.sought r.key))
-    × AreSearches routes.subscribers Subscribers t
-    × AreSearches routes.queryables Queryables t
+AreRoutes routes t = (n : ℕ) → IfSome (get nat_cmp routes.known n) (λ r. r.route ≡ route_of t r.tree r.sought r.key)

@@ -5,4 +5,3 @@
 pub mod push;
 pub mod route;
 pub mod routes;
-mod searches;

@@ -10,8 +10,10 @@ ghost use Rattle.zr_lists.specs.Prefix.{IsPrefixBehind};
 ghost use Rattle.zr_tree.specs.Tree.{parent};
 ghost use Rattle.zr_push.specs.Route.{push_for, sent_along};
 ghost use Rattle.zr_push.specs.Routes.{AreRoutes};
+ghost use Rattle.zr_push_sought.specs.Holders.{HoldJust};
+ghost use Rattle.zr_push_sought.specs.Pairs.{declared_by};
 
-use crate::route::RouteLink;
+use crate::route::{Route, RouteLink};
 use crate::routes::Routes;
 use std::alloc::{AllocError, Global};
 use zr_id::link::LinkNo;
@@ -21,6 +23,7 @@ use zr_msg::msg::Msg;
 use zr_msg::peer::{LinkPeer, Role};
 use zr_node_spec::tables::TablesView;
 use zr_node_spec::tell::tell;
+use zr_push_sought::holders::Holders;
 use zr_push_sought::sought::Sought;
 
 /// A sample has come over a link of this router, naming a tree or none: it goes along the route of its key in the tree that it stays in, with
@@ -29,13 +32,16 @@ use zr_push_sought::sought::Sought;
 pub fn push(
     alloc: Global,
     tables: &TablesView,
+    holders: &mut Holders,
     routes: &mut Routes,
     from: LinkPeer,
     named: Option<Zid>,
     content: &Content,
     out: &mut Vec<(LinkNo, Msg)>,
 ) -> Result<(), AllocError>
-    requires { AreRoutes routes.old tables.now }
+    requires holders { HoldJust (declared_by tables.now) holders.old }
+    requires routes { AreRoutes routes.old tables.now }
+    ensures holders { HoldJust (declared_by tables.now) holders.new }
     ensures routes { AreRoutes routes.new tables.now }
     ensures ok { AreNumbered tables.now.links → link_at tables.now.links from.link.0 ≡ Some from → OnOk result (Tells (sends_push tables.now from.link.0 named content.now) out.old.items out.new.items) }
     ensures err { AreNumbered tables.now.links → link_at tables.now.links from.link.0 ≡ Some from → OnErr result (TellsPrefix (sends_push tables.now from.link.0 named content.now) out.old.items out.new.items) }
@@ -48,7 +54,7 @@ pub fn push(
     if let Some(route) = routes.find(tree, Sought::Subscribers, key) {
         return send_along(route.stops(), link, tree, content, out);
     }
-    let route = routes.work_out(alloc, tables, tree, Sought::Subscribers, key)?;
+    let route = Route::found(alloc, tables, holders, tree, Sought::Subscribers, key)?;
     send_along(route.stops(), link, tree, content, out)?;
     routes.remember(alloc, tree, Sought::Subscribers, key, route)
 }

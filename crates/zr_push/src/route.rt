@@ -4,7 +4,8 @@ ghost use Rattle.std.specs.Prelude.{◌≡◌, IfOk, IfSome, map, filter};
 ghost use Rattle.zr_node_spec.specs.Queries.{tree_for};
 ghost use Rattle.zr_node_spec.specs.Tables.{TableState};
 ghost use Rattle.zr_push_sought.specs.Found.{TellClients};
-ghost use Rattle.zr_push_sought.specs.Holders.{AreFound};
+ghost use Rattle.zr_push_sought.specs.Holders.{AreFound, HoldJust};
+ghost use Rattle.zr_push_sought.specs.Pairs.{declared_by};
 ghost use Rattle.zr_push_sought.specs.Sought.{by_meeting};
 ghost use Rattle.zr_push.specs.Route.{goes_on, is_stop, route_of, stop_at, stops_from};
 
@@ -16,7 +17,8 @@ use zr_key::key::KeyExpr;
 use zr_msg::peer::{LinkPeer, Role};
 use zr_node_spec::tables::TablesView;
 use zr_push_sought::client_rows::ClientRows;
-use zr_push_sought::holders::Found;
+use zr_push_sought::found::Found;
+use zr_push_sought::holders::Holders;
 use zr_push_sought::hops::Hops;
 use zr_push_sought::search::has_declared;
 use zr_push_sought::sought::Sought;
@@ -80,6 +82,26 @@ impl Route {
         Route::by(alloc, tables, tree, None, sought, key)
     }
 
+    /// The same, by an index of who has declared something, if there is one by now, and memory to read it.
+    pub fn found(
+        alloc: Global,
+        tables: &TablesView,
+        holders: &mut Holders,
+        tree: Zid,
+        sought: Sought,
+        key: &KeyExpr,
+    ) -> Result<Route, AllocError>
+        requires { HoldJust (declared_by tables.now) holders.old }
+        ensures holders { HoldJust (declared_by tables.now) holders.new }
+        ensures route { IfOk result (λ r. r ≡ route_of tables.now tree sought key.now) }
+    {
+        holders.prepare(alloc, tables, sought);
+        match holders.find(alloc, tables, sought, key) {
+            Some(found) => Route::by(alloc, tables, tree, Some(&found), sought, key),
+            None => Route::of(alloc, tables, tree, sought, key),
+        }
+    }
+
     /// The same, where it may be known who has declared what meets the key. Otherwise all declarations are looked at.
     pub fn by(
         alloc: Global,
@@ -138,7 +160,7 @@ fn stops_on(
     sought: Sought,
     key: &KeyExpr,
 ) -> Result<Vec<RouteLink>, AllocError>
-    requires { IfSome found (λ f. TellClients (by_meeting sought) key.now tables.now.rows f.now.clients.items) }
+    requires { IfSome found (λ f. TellClients (by_meeting sought) key.now tables.now.rows f.now.holders.items) }
     ensures { IfOk result (λ v. v.items ≡ map (λ l. stop_at l) (filter (λ l. is_stop tables.now hops.now sought key.now l l.peer.role) tables.now.links)) }
 {
     let links = tables.links();
@@ -160,7 +182,7 @@ fn is_stop(
     key: &KeyExpr,
     link: &LinkPeer,
 ) -> bool
-    requires { IfSome found (λ f. TellClients (by_meeting sought) key.now rows.old f.now.clients.items) }
+    requires { IfSome found (λ f. TellClients (by_meeting sought) key.now rows.old f.now.holders.items) }
     ensures kept { rows.new ≡ rows.old }
     ensures stop { (t : TableState) → rows.old ≡ t.rows → result ≡ is_stop t hops.now sought key.now link.now link.now.peer.role }
 {

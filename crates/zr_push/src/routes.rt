@@ -1,7 +1,7 @@
 //! What a router remembers of the trees and keys of samples and requests, so that its tables are asked once a tree and key and not once a
 //! message.
 
-ghost use Rattle.std.specs.Prelude.{◌≡◌, ◌≤◌, ◌==◌, ◌&&◌, IfOk};
+ghost use Rattle.std.specs.Prelude.{◌≡◌, ◌≤◌, ◌==◌, ◌&&◌};
 ghost use Rattle.std.specs.BTreeMap.{btree_map_len};
 ghost use Rattle.std.specs.Str.{bytes_eq};
 ghost use Rattle.zr_id.specs.Zid.{is_named};
@@ -10,12 +10,10 @@ ghost use Rattle.zr_push_sought.specs.declared.sought.Sought.{Sought};
 ghost use Rattle.zr_push.specs.Route.{route_of};
 
 use crate::route::Route;
-use crate::searches::KeySearches;
 use std::alloc::{AllocError, Global};
 use std::collections::BTreeMap;
 use zr_id::zid::Zid;
 use zr_key::key::KeyExpr;
-use zr_node_spec::tables::TablesView;
 use zr_push_sought::sought::Sought;
 
 /// How many routes are remembered at most. Messages may come on ever new keys, so there has to be a bound. With a thousand stops in
@@ -51,8 +49,6 @@ impl Remembered {
 pub struct Routes {
     // by a number that is worked out from tree, what is sought and key: a hint, which is checked at the route
     known: BTreeMap<u64, Remembered>,
-    subscribers: KeySearches,
-    queryables: KeySearches,
     ghost bounded: { btree_map_len known ≤ 4096 },
 }
 
@@ -67,39 +63,14 @@ impl Routes {
     {
         Routes {
             known: BTreeMap::new(alloc),
-            subscribers: KeySearches::new(),
-            queryables: KeySearches::new(),
         }
     }
 
     /// Forgets all routes. It takes no memory, so it can't fail.
-    pub fn clear(&mut self)
+    pub fn forget(&mut self)
         ensures { (t : TableState) → AreRoutes self.new t }
     {
         self.known.clear();
-        self.subscribers.clear();
-        self.queryables.clear();
-    }
-
-    /// The route in a tree to what is sought for a key, worked out.
-    pub fn work_out(
-        &mut self,
-        alloc: Global,
-        tables: &TablesView,
-        tree: Zid,
-        sought: Sought,
-        key: &KeyExpr,
-    ) -> Result<Route, AllocError>
-        requires { AreRoutes self.old tables.now }
-        ensures routes { AreRoutes self.new tables.now }
-        ensures route { IfOk result (λ r. r ≡ route_of tables.now tree sought key.now) }
-    {
-        match sought {
-            Sought::Subscribers => self.subscribers.route(alloc, tables, tree, sought, key),
-            Sought::Queryables | Sought::Complete => {
-                self.queryables.route(alloc, tables, tree, sought, key)
-            }
-        }
     }
 
     /// The route in a tree to what is sought for a key, if it is remembered.

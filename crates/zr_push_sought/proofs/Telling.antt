@@ -1,30 +1,37 @@
 -- What an index of all declarations gives for a key tells who has declared what is sought.
-use Rattle.std.proofs.Common.{◌≡◌, ℕ, ◌==◌, Bool, true, false, cond, not, ◌&&◌, ◌||◌, List, [], ◌∷◌, ◌++◌, ◌⊎◌, inl, inr, Ordering, Less, refl, sym, ap, ◌∙◌}
+use Rattle.std.proofs.Common.{◌≡◌, ℕ, ◌==◌, Bool, true, false, cond, ◌&&◌, ◌||◌, List, [], ◌∷◌, ◌⊎◌, inl, inr, Option, IfSome, Ordering, Less, Equal, Greater, refl, sym, ap, subst, ◌∙◌}
 use Rattle.std.specs.Cmp.Lexicographic.{slice_cmp}
-use Rattle.std.specs.List.{list_any, AllByRecursion}
-use Rattle.std.specs.Ordering.{is_eq, nat_cmp}
+use Rattle.std.specs.List.{list_any}
+use Rattle.std.specs.Ordering.{is_eq, nat_cmp, ordering_then}
 use Rattle.std.proofs.lemmas.Bool.{and_from, and_parts, true≢false}
 use Rattle.std.proofs.lemmas.Map.Keys.{sorted_head, sorted_tail}
-use Rattle.zr_graph.specs.Record.{has}
+use Rattle.std.proofs.lemmas.Option.{IfSome_then}
 use Rattle.zr_id.specs.Zid.{is_named}
+use Rattle.zr_id.specs.declared.link.LinkNo.{LinkNo}
 use Rattle.zr_index.specs.Meeting.{AreMeeting, meets_key}
-use Rattle.zr_index.specs.Pairs.{Pairs, AreSame}
-use Rattle.zr_index.proofs.Tests.{any_and, any_flat, any_same, flipped, meets_is}
+use Rattle.zr_index.proofs.Tests.{any_flat, flipped, meets_is}
 use Rattle.zr_key.specs.Key.{chunks}
 use Rattle.zr_lists.specs.Ascending.{IsAscending}
-use Rattle.zr_lists.proofs.Elements.{each_in, in_each}
-use Rattle.zr_lists.proofs.Finds.{In, any_in, in_any, same_any}
+use Rattle.zr_lists.proofs.Elements.{each_in, in_each, in_front, in_behind, in_either, in_flat, flat_in}
+use Rattle.zr_lists.proofs.Finds.{In, any_in, in_any, in_map, map_in, same_any}
 use Rattle.zr_lists.proofs.Numbers.{nat_eq_is}
-use Rattle.zr_lists.proofs.Order.{Comes, comes, is_itself, nat_order, name_order}
+use Rattle.zr_lists.proofs.Order.{comes, is_itself, name_order}
 use Rattle.zr_lists.proofs.Truths.{same_test}
+use Rattle.zr_local.proofs.Held.{holder_order}
+use Rattle.zr_local.specs.Holders.{holder_cmp, is_holder}
+use Rattle.zr_local.specs.declared.holder.Holder.{Holder}
+use Rattle.zr_local.specs.declared.holder.Holder.TheVariants.{Client, Source}
 use Rattle.zr_local.specs.declared.row.Row.{Row}
 use Rattle.zr_log.specs.declared.log.Log.{Log}
 use Rattle.zr_msg.specs.declared.decl.Decl.{Decl}
-use Rattle.zr_push_sought.specs.Found.{has_link, TellClients, TellSources}
-use Rattle.zr_push_sought.specs.Holders.{SeeksMeeting}
-use Rattle.zr_push_sought.specs.Pairs.{is_kind, of_clients, of_log, of_sources, pair_of, pairs_of}
-use Rattle.zr_push_sought.specs.Sought.{has_declared, is_in_log, is_sought}
+use Rattle.zr_node_spec.specs.Tables.{TableState}
+use Rattle.zr_push_sought.specs.Found.{has_holder, TellClients, TellSources}
+use Rattle.zr_push_sought.specs.Holders.{AreFound, SeeksMeeting}
+use Rattle.zr_push_sought.specs.Pairs.{Declared, all_declared, declared_by, is_kind, of_clients, of_log, of_row, of_set, of_sources, pair_of, pairs_of}
+use Rattle.zr_push_sought.specs.Sought.{by_meeting, is_in_log, is_sought}
+use Rattle.zr_push_sought.specs.declared.found.Found.{Found}
 use Rattle.zr_push_sought.specs.declared.sought.Sought.{Sought}
+use Rattle.zr_push_sought.proofs.Covering.{by_meeting_seeks}
 
 -- ---- one declaration
 
@@ -41,15 +48,15 @@ turned false m true = refl
 turned false m false = refl
 
 -- a pair whose key meets the one that is looked for, and whose value is the one that is
-abbrev is_met : {V : Type 0} → (V → V → Ordering) → List ℕ → V → List (List ℕ) × V → Bool
-is_met cmp key v p = meets_key key p.0 && is_eq (cmp p.1 v)
+abbrev is_met : List ℕ → Holder → List (List ℕ) × Holder → Bool
+is_met key who p = meets_key key p.0 && is_holder p.1 who
 
-one_pair : {V : Type 0} (cmp : V → V → Ordering) (sought : Sought) (key : List ℕ) → SeeksMeeting sought key → (who v : V) (d : Decl)
-    → list_any (is_met cmp key v) (pair_of sought who d) ≡ (is_eq (cmp who v) && is_sought sought key d)
-one_pair cmp sought key seeks who v d =
-    any_if (is_met cmp key v) (chunks d.key, who) (is_kind sought d.kind)
-    ∙ turned (is_kind sought d.kind) (meets_key key (chunks d.key)) (is_eq (cmp who v))
-    ∙ ap (λ b. is_eq (cmp who v) && b) (sym (seeks d ∙ ap (λ b. is_kind sought d.kind && b) (meets_is d.key key)))
+one_pair : (sought : Sought) (key : List ℕ) → SeeksMeeting sought key → (who : Holder) (x : Declared)
+    → list_any (is_met key who) (pair_of sought x) ≡ (is_holder x.0 who && is_sought sought key x.1)
+one_pair sought key seeks who x =
+    any_if (is_met key who) (chunks x.1.key, x.0) (is_kind sought x.1.kind)
+    ∙ turned (is_kind sought x.1.kind) (meets_key key (chunks x.1.key)) (is_holder x.0 who)
+    ∙ ap (λ b. is_holder x.0 who && b) (sym (seeks x.1 ∙ ap (λ b. is_kind sought x.1.kind && b) (meets_is x.1.key key)))
 
 -- ---- logs ascend, so each router has one
 
@@ -66,57 +73,110 @@ only_log (l ∷ logs) up a b (inr i) (inl j) e =
     absurd (true≢false (sym e ∙ ap (λ (z : Log). is_named a.source z.source) j ∙ apart))
 only_log (l ∷ logs) up a b (inr i) (inr j) e = only_log logs (sorted_tail (λ (y z : Log). slice_cmp nat_cmp y.source z.source) l logs up) a b i j e
 
-pub clients_tell : (sought : Sought) (key : List ℕ) (rows : List Row) (ps : Pairs ℕ) (found : List ℕ) → SeeksMeeting sought key → AreSame ps (of_clients sought rows) → AreMeeting nat_cmp key ps found
-    → TellClients sought key rows found
-clients_tell sought key rows ps found seeks same m link =
-    same_any (λ n. is_eq (nat_cmp n link)) (λ n. is_eq (nat_cmp link n)) found (λ n i. flipped nat_cmp nat_order n link)
-    ∙ m.exactly link
-    ∙ any_same (is_met nat_cmp key link) ps (of_clients sought rows) same
-    ∙ any_flat (is_met nat_cmp key link) (λ (r : Row). pair_of sought r.link.0 r.decl) rows
-    ∙ same_any _ (λ (r : Row). r.link.0 == link && is_sought sought key r.decl) rows
-    (λ r i. one_pair nat_cmp sought key seeks r.link.0 link r.decl ∙ ap (λ b. b && is_sought sought key r.decl) (nat_eq_is r.link.0 link))
+-- ---- who is who
 
-module _ (sought : Sought) (key me : List ℕ) (logs : List Log) (ps : Pairs (List ℕ)) (found : List (List ℕ)) (seeks : SeeksMeeting sought key) (same : AreSame ps (of_sources sought me logs))
-    (m : AreMeeting (slice_cmp nat_cmp) key ps found) where
-  -- the log of the router that is named has it, and is another one's than this
-  abbrev tells : List ℕ → Log → Bool
-  tells name log = not (is_named log.source me) && (is_named log.source name && is_in_log sought key log)
+client_is : (a b : LinkNo) → is_holder (Client a) (Client b) ≡ (a.0 == b.0)
+client_is a b = by (nat_cmp a.0 b.0) ∙ nat_eq_is a.0 b.0
+  where
+    by : (r : Ordering) → is_eq (ordering_then r (slice_cmp nat_cmp [] [])) ≡ is_eq r
+    by Less = refl
+    by Equal = refl
+    by Greater = refl
 
-  one_log : (log : Log) (name : List ℕ) → list_any (is_met (slice_cmp nat_cmp) key name) (of_log sought me log) ≡ tells name log
-  one_log log name = by (is_named log.source me)
-    where
-      all : list_any (is_met (slice_cmp nat_cmp) key name) (pairs_of sought log.source log.decls) ≡ (is_named log.source name && is_in_log sought key log)
-      all =
-          any_flat (is_met (slice_cmp nat_cmp) key name) (λ (d : Decl). pair_of sought log.source d) log.decls
-          ∙ same_any _ (λ (d : Decl). is_named log.source name && is_sought sought key d) log.decls (λ d i. one_pair (slice_cmp nat_cmp) sought key seeks log.source name d)
-          ∙ any_and (is_named log.source name) (λ (d : Decl). is_sought sought key d) log.decls
+-- what stands in the log of another router
+record FromLog (me : List ℕ) (logs : List Log) (x : Declared) : Type 0 where
+  log : Log
+  there : In log logs
+  other : is_named log.source me ≡ false
+  decl : Decl
+  declared : In decl log.decls
+  is : (Source log.source, decl) ≡ x
 
-      by : (own : Bool) → list_any (is_met (slice_cmp nat_cmp) key name) (cond own [] (pairs_of sought log.source log.decls)) ≡ (not own && (is_named log.source name && is_in_log sought key log))
-      by true = refl
-      by false = all
+from_log : (me : List ℕ) (logs : List Log) (x : Declared) → In x (of_sources me logs) → FromLog me logs x
+from_log me logs x i = let f = in_flat (λ (l : Log). of_log me l) logs x i in by f.0 f.1 (is_named f.0.source me) refl f.2
+  where
+    by : (l : Log) → In l logs → (own : Bool) → is_named l.source me ≡ own → In x (cond own [] (of_set l.source l.decls)) → FromLog me logs x
+    by l there true e j = absurd j
+    by l there false e j =
+        let d = in_map (λ (d : Decl). (Source l.source, d)) l.decls x j in
+        record { log = l; there = there; other = e; decl = d.0; declared = d.1; is = d.2 }
 
-  named_so : (name : List ℕ) → has found name ≡ list_any (tells name) logs
-  named_so name =
-      same_any (λ n. is_named n name) (λ n. is_eq (slice_cmp nat_cmp name n)) found (λ n i. flipped (slice_cmp nat_cmp) name_order n name)
-      ∙ m.exactly name
-      ∙ any_same (is_met (slice_cmp nat_cmp) key name) ps (of_sources sought me logs) same
-      ∙ any_flat (is_met (slice_cmp nat_cmp) key name) (λ (l : Log). of_log sought me l) logs
-      ∙ same_any _ (tells name) logs (λ log i. one_log log name)
+module _ (sought : Sought) (key : List ℕ) where
+  -- someone has declared it, and it is sought
+  abbrev has_made : Holder → Declared → Bool
+  has_made who x = is_holder x.0 who && is_sought sought key x.1
 
-  pub sources_tell : IsAscending (slice_cmp nat_cmp) (λ l. l.source) logs → TellSources sought key me logs found
-  sources_tell up = in_each (λ log. is_named log.source me ≡ false → has found log.source ≡ is_in_log sought key log) logs (λ log i other. named_so log.source ∙ alone log i other)
-    where
-      alone : (log : Log) → In log logs → is_named log.source me ≡ false → list_any (tells log.source) logs ≡ is_in_log sought key log
-      alone log i other = same_test (list_any (tells log.source) logs) (is_in_log sought key log) to back
-        where
-          to : list_any (tells log.source) logs ≡ true → is_in_log sought key log ≡ true
-          to h =
-              let f = any_in (tells log.source) logs h in
-              let others = and_parts (not (is_named f.0.source me)) (is_named f.0.source log.source && is_in_log sought key f.0) f.2 in
-              let both = and_parts (is_named f.0.source log.source) (is_in_log sought key f.0) others.1 in
-              ap (λ (l : Log). is_in_log sought key l) (sym (only_log logs up f.0 log f.1 i both.0)) ∙ both.1
+  -- who is found for the key has declared something that is sought
+  found_so : (xs : List Declared) (found : List Holder) → SeeksMeeting sought key → AreMeeting holder_cmp key (pairs_of sought xs) found → (who : Holder) → has_holder found who ≡ list_any (has_made who) xs
+  found_so xs found seeks m who =
+      same_any (λ h. is_holder h who) (λ h. is_holder who h) found (λ h i. flipped holder_cmp holder_order h who)
+      ∙ m.exactly who
+      ∙ any_flat (is_met key who) (λ (x : Declared). pair_of sought x) xs
+      ∙ same_any _ (has_made who) xs (λ x i. one_pair sought key seeks who x)
 
-          back : is_in_log sought key log ≡ true → list_any (tells log.source) logs ≡ true
-          back h =
-              in_any (tells log.source) logs log i
-              (and_from (not (is_named log.source me)) _ (ap not other) (and_from (is_named log.source log.source) (is_in_log sought key log) (is_itself (slice_cmp nat_cmp) name_order log.source) h))
+  module _ (rows : List Row) (me : List ℕ) (logs : List Log) where
+    abbrev all : List Declared
+    all = all_declared rows me logs
+
+    module _ (link : ℕ) where
+      abbrev client : Holder
+      client = Client (record { 0 = link })
+
+      abbrev declares : Row → Bool
+      declares r = r.link.0 == link && is_sought sought key r.decl
+
+      client_row : (r : Row) → has_made client (of_row r) ≡ declares r
+      client_row r = ap (λ b. b && is_sought sought key r.decl) (client_is r.link (record { 0 = link }))
+
+      client_has : (x : Declared) → has_made client x ≡ true → In x (of_clients rows) ⊎ In x (of_sources me logs) → list_any declares rows ≡ true
+      client_has x t (inl i) =
+          let r = in_map of_row rows x i in
+          in_any declares rows r.0 r.1 (sym (client_row r.0) ∙ ap (has_made client) r.2 ∙ t)
+      client_has x t (inr i) = absurd (true≢false (sym t ∙ sym (ap (has_made client) (from_log me logs x i).is)))
+
+      client_to : list_any (has_made client) all ≡ true → list_any declares rows ≡ true
+      client_to h = let f = any_in (has_made client) all h in client_has f.0 f.2 (in_either (of_clients rows) (of_sources me logs) f.0 f.1)
+
+      client_back : list_any declares rows ≡ true → list_any (has_made client) all ≡ true
+      client_back h =
+          let f = any_in declares rows h in
+          in_any (has_made client) all (of_row f.0) (in_front (of_clients rows) (of_sources me logs) (of_row f.0) (map_in of_row rows f.0 f.1)) (client_row f.0 ∙ f.2)
+
+    pub clients_tell : (found : List Holder) → SeeksMeeting sought key → AreMeeting holder_cmp key (pairs_of sought all) found → TellClients sought key rows found
+    clients_tell found seeks m link = found_so all found seeks m (client link) ∙ same_test (list_any (has_made (client link)) all) (list_any (declares link) rows) (client_to link) (client_back link)
+
+    module _ (up : IsAscending (slice_cmp nat_cmp) (λ l. l.source) logs) (log : Log) (here : In log logs) where
+      abbrev source : Holder
+      source = Source log.source
+
+      source_has : (x : Declared) → has_made source x ≡ true → In x (of_clients rows) ⊎ In x (of_sources me logs) → is_in_log sought key log ≡ true
+      source_has x t (inl i) = absurd (true≢false (sym t ∙ sym (ap (has_made source) (in_map of_row rows x i).2)))
+      source_has x t (inr i) =
+          let f = from_log me logs x i in
+          let both = and_parts (is_named f.log.source log.source) (is_sought sought key f.decl) (ap (has_made source) f.is ∙ t) in
+          ap (λ (l : Log). is_in_log sought key l) (sym (only_log logs up f.log log f.there here both.0)) ∙ in_any (λ (d : Decl). is_sought sought key d) f.log.decls f.decl f.declared both.1
+
+      source_to : list_any (has_made source) all ≡ true → is_in_log sought key log ≡ true
+      source_to h = let f = any_in (has_made source) all h in source_has f.0 f.2 (in_either (of_clients rows) (of_sources me logs) f.0 f.1)
+
+      source_back : is_named log.source me ≡ false → is_in_log sought key log ≡ true → list_any (has_made source) all ≡ true
+      source_back other h =
+          let f = any_in (λ (d : Decl). is_sought sought key d) log.decls h in
+          let set : In (Source log.source, f.0) (of_set log.source log.decls) = map_in (λ (d : Decl). (Source log.source, d)) log.decls f.0 f.1 in
+          let told : In (Source log.source, f.0) (of_log me log) = subst (λ (own : Bool). In (Source log.source, f.0) (cond own [] (of_set log.source log.decls))) (sym other) set in
+          in_any (has_made source) all (Source log.source, f.0)
+          (in_behind (of_clients rows) (of_sources me logs) (Source log.source, f.0) (flat_in (λ (l : Log). of_log me l) logs log (Source log.source, f.0) here told))
+          (and_from (is_named log.source log.source) (is_sought sought key f.0) (is_itself (slice_cmp nat_cmp) name_order log.source) f.2)
+
+    pub sources_tell : (found : List Holder) → SeeksMeeting sought key → AreMeeting holder_cmp key (pairs_of sought all) found → IsAscending (slice_cmp nat_cmp) (λ l. l.source) logs → TellSources sought key me logs found
+    sources_tell found seeks m up =
+        in_each (λ log. is_named log.source me ≡ false → has_holder found (Source log.source) ≡ is_in_log sought key log) logs
+        (λ log i other. found_so all found seeks m (Source log.source) ∙ same_test (list_any (has_made (Source log.source)) all) (is_in_log sought key log) (source_to up log i) (source_back up log i other))
+
+-- who is found by meeting has declared what is sought, or might have
+pub found_tell : (sought : Sought) (t : TableState) (key : List ℕ) (r : Option Found) → IsAscending (slice_cmp nat_cmp) (λ l. l.source) t.known.logs
+    → IfSome r (λ f. AreMeeting holder_cmp key (pairs_of (by_meeting sought) (declared_by t)) f.holders.items) → IfSome r (λ f. AreFound t (by_meeting sought) key f)
+found_tell sought t key r up h = IfSome_then r h (λ f m. record {
+  clients = clients_tell (by_meeting sought) key t.rows t.base.me t.known.logs f.holders.items (by_meeting_seeks sought key) m;
+  sources = sources_tell (by_meeting sought) key t.rows t.base.me t.known.logs f.holders.items (by_meeting_seeks sought key) m up;
+})

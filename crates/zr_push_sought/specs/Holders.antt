@@ -1,25 +1,28 @@
 -- Who has declared what is sought, by the chunks of what was declared.
-use Rattle.std.specs.Prelude.{◌≡◌, ◌&&◌, ℕ, List}
-use Rattle.std.specs.Cmp.Lexicographic.{slice_cmp}
-use Rattle.std.specs.Ordering.{nat_cmp}
+use Rattle.std.specs.Prelude.{◌≡◌, ◌&&◌, ℕ, List, Option, IfSome}
 use Rattle.zr_index.specs.Meeting.{held}
-use Rattle.zr_index.specs.Pairs.{AreSame}
-use Rattle.zr_lists.specs.Ascending.{IsAscending}
+use Rattle.zr_index.specs.Pairs.{Pairs, AreSame}
+use Rattle.zr_index.specs.declared.index.Index.{Index}
+use Rattle.zr_local.specs.declared.holder.Holder.{Holder}
 use Rattle.zr_match.specs.Table.{texts_meet}
 use Rattle.zr_msg.specs.declared.decl.Decl.{Decl}
 use Rattle.zr_node_spec.specs.Tables.{TableState}
 use Rattle.zr_push_sought.specs.Found.{TellClients, TellSources}
-use Rattle.zr_push_sought.specs.Pairs.{is_kind, of_clients, of_sources}
+use Rattle.zr_push_sought.specs.Pairs.{Declared, is_kind, pairs_of}
 use Rattle.zr_push_sought.specs.Sought.{is_sought}
-use Rattle.zr_push_sought.specs.declared.holders.Found.{Found}
+use Rattle.zr_push_sought.specs.declared.found.Found.{Found}
 use Rattle.zr_push_sought.specs.declared.holders.Holders.{Holders}
 use Rattle.zr_push_sought.specs.declared.sought.Sought.{Sought}
+use Rattle.zr_push_sought.specs.declared.sought.Sought.TheVariants.{Subscribers, Queryables}
 
--- all that was declared of a kind that is sought, by clients and in the logs of the other routers
-pub record HoldAll (sought : Sought) (t : TableState) (h : Holders) : Type 0 where
-  pub in_order : IsAscending (slice_cmp nat_cmp) (λ l. l.source) t.known.logs
-  pub clients : AreSame (held h.clients) (of_clients sought t.rows)
-  pub sources : AreSame (held h.sources) (of_sources sought t.base.me t.known.logs)
+-- an index holds just these pairs, if there is one
+abbrev pub HoldsJust : Pairs Holder → Option (Index Holder) → Type 0
+HoldsJust ps index = IfSome index (λ i. AreSame (held i) ps)
+
+-- one index holds just what of this are subscriptions, and the other one just what are queryables
+pub record HoldJust (xs : List Declared) (h : Holders) : Type 0 where
+  pub subscribers : HoldsJust (pairs_of Subscribers xs) h.subscribers.index
+  pub queryables : HoldsJust (pairs_of Queryables xs) h.queryables.index
 
 -- what is sought is all of a kind that meets the key
 abbrev pub SeeksMeeting : Sought → List ℕ → Type 0
@@ -27,5 +30,5 @@ SeeksMeeting sought key = (d : Decl) → is_sought sought key d ≡ (is_kind sou
 
 -- those who have declared it
 pub record AreFound (t : TableState) (sought : Sought) (key : List ℕ) (f : Found) : Type 0 where
-  pub clients : TellClients sought key t.rows f.clients.items
-  pub sources : TellSources sought key t.base.me t.known.logs f.sources.items
+  pub clients : TellClients sought key t.rows f.holders.items
+  pub sources : TellSources sought key t.base.me t.known.logs f.holders.items

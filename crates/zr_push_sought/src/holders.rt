@@ -1,176 +1,145 @@
-//! `Holders`: who has declared what is sought, by the chunks of what was declared. So who has for a key is found without looking at all
+//! `Holders`: who has declared what, by the chunks of what was declared. So who has for a key is found without looking at all
 //! declarations.
 
-ghost use Rattle.std.specs.Prelude.{◌≡◌, ◌++◌, [], List, IfOk, OnOk};
-ghost use Rattle.std.specs.Cmp.Lexicographic.{slice_cmp};
-ghost use Rattle.std.specs.Ordering.{nat_cmp};
-ghost use Rattle.std.proofs.lemmas.Map.Keys.{IsStrictlySortedBy-prop};
-ghost use Rattle.zr_graph.specs.Record.{has, IsAscending as NamesAscend};
-ghost use Rattle.zr_index.specs.Meeting.{held, AreMeeting};
-ghost use Rattle.zr_index.specs.Pairs.{AreSame};
-ghost use Rattle.zr_lists.specs.Ascending.{IsAscending};
-ghost use Rattle.zr_lists.specs.Place.{IsPlace};
-ghost use Rattle.zr_push_sought.specs.Found.{has_link};
-ghost use Rattle.zr_push_sought.specs.Pairs.{of_clients, of_log, of_sources, pair_of, pairs_of};
+ghost use Rattle.std.specs.Prelude.{◌≡◌, ◌∷◌, [], List, IfSome};
+ghost use Rattle.zr_push_sought.specs.Holders.{AreFound, HoldsJust, HoldJust};
+ghost use Rattle.zr_push_sought.specs.Pairs.{Declared, declared_by, pairs_of};
+ghost use Rattle.zr_push_sought.specs.Sought.{by_meeting};
+ghost use Rattle.zr_push_sought.specs.declared.sought.Sought.{Sought};
 
-use crate::hops::place_of;
-use crate::search::is_kind;
+use crate::found::Found;
+use crate::kind_index::KindIndex;
 use crate::sought::Sought;
-use std::alloc::{AllocError, Global};
-use zr_id::link::LinkNo;
-use zr_id::zid::Zid;
-use zr_index::index::Index;
+use std::alloc::Global;
 use zr_key::key::KeyExpr;
-use zr_local::row::Row;
-use zr_log::log::Log;
+use zr_local::holder::Holder;
 use zr_msg::decl::Decl;
 use zr_node_spec::tables::TablesView;
 
-/// Who has declared something of a kind that is sought: clients by the numbers of their links, and other routers.
-pub struct Holders {
-    clients: Index<u32>,
-    sources: Index<Zid>,
-}
-
-// Written out, so that it is proved here, and not by each crate that lets one go.
-impl Drop for Holders {
-    fn drop(self) {
-        let Self {
-            clients: _clients,
-            sources: _sources,
-        } = self;
-    }
-}
-
-/// Who has declared what is sought for a key: clients by the numbers of their links, and other routers.
+/// Who has declared what, of the clients of a router and of the other routers: an index of subscriptions and one of queryables. Each is
+/// there once it pays.
+///
+/// They are kept true by those who change what was declared: what stands at a place is taken before it changes, and what stands there
+/// then is put. None of this fails for want of memory.
 #[derive(Drop)]
-pub struct Found {
-    clients: Vec<u32>,
-    sources: Vec<Zid>,
-    ghost links: { IsAscending nat_cmp (λ n. n) clients.items } by { IsStrictlySortedBy-prop nat_cmp clients.items },
-    ghost names: { NamesAscend sources.items } by { IsStrictlySortedBy-prop (slice_cmp nat_cmp) sources.items },
-}
-
-impl Found {
-    /// Whether the client of a link has.
-    pub fn has_client(&self, link: LinkNo) -> bool
-        ensures { result ≡ has_link self.now.clients.items link.0 }
-    {
-        link_place(&self.clients, link.0).is_ok()
-    }
-
-    /// Whether the clients of a router have.
-    pub fn has_source(&self, name: &Zid) -> bool
-        ensures { result ≡ has self.now.sources.items name.now }
-    {
-        place_of(&self.sources, name).is_ok()
-    }
-}
-
-fn link_place(links: &[u32], link: u32) -> Result<usize, usize>
-    requires { IsAscending nat_cmp (λ n. n) links.now }
-    ensures { IsPlace nat_cmp (λ n. n) links.now link result }
-{
-    links.binary_search(&link)
+pub struct Holders {
+    subscribers: KindIndex,
+    queryables: KindIndex,
 }
 
 impl Holders {
-    ghost use Rattle.zr_node_spec.specs.Tables.{TableState};
-    ghost use Rattle.zr_push_sought.specs.Holders.{AreFound, HoldAll, SeeksMeeting};
-    ghost use Rattle.zr_push_sought.specs.declared.sought.Sought.{Sought};
-
-    /// All who have, by the tables.
-    pub fn of(alloc: Global, tables: &TablesView, sought: Sought) -> Result<Holders, AllocError>
-        ensures { IfOk result (λ h. HoldAll sought tables.now h) }
+    /// There is no index yet.
+    pub fn new() -> Holders
+        ensures { (xs : List Declared) → HoldJust xs result }
     {
-        let clients = clients_of(alloc, tables.local().rows(), sought)?;
-        let sources = sources_of(alloc, tables.known().logs(), tables.me(), sought)?;
-        Ok(Holders { clients, sources })
+        Holders {
+            subscribers: KindIndex::new(),
+            queryables: KindIndex::new(),
+        }
     }
 
-    /// Those of them whose declarations meet a key.
-    pub fn find(&self, alloc: Global, key: &KeyExpr) -> Result<Found, AllocError>
-        ensures { IfOk result (λ f. (t : TableState) (sought : Sought) → SeeksMeeting sought key.now → HoldAll sought t self.now → AreFound t sought key.now f) }
+    /// Gives up both indexes. It takes no memory, so it can't fail.
+    pub fn forget(&mut self)
+        ensures { (xs : List Declared) → HoldJust xs self.new }
     {
-        let clients = clients_meeting(alloc, &self.clients, key)?;
-        let sources = sources_meeting(alloc, &self.sources, key)?;
-        Ok(Found { clients, sources })
+        *self = Holders::new();
+    }
+
+    /// Someone has declared something more.
+    pub fn put(&mut self, who: Holder, decl: &Decl)
+        ensures { (xs : List Declared) → HoldJust xs self.old → HoldJust ((who, decl.now) ∷ xs) self.new }
+    {
+        self.subscribers.put(Sought::Subscribers, &who, decl);
+        self.queryables.put(Sought::Queryables, &who, decl);
+    }
+
+    /// Something that someone has declared is gone.
+    pub fn take(&mut self, who: Holder, decl: &Decl)
+        ensures { (xs : List Declared) → HoldJust ((who, decl.now) ∷ xs) self.old → HoldJust xs self.new }
+    {
+        self.subscribers.take(Sought::Subscribers, &who, decl);
+        self.queryables.take(Sought::Queryables, &who, decl);
+    }
+
+    /// Makes the index of what is sought, once enough searches went without it.
+    pub fn prepare(&mut self, alloc: Global, tables: &TablesView, sought: Sought)
+        requires { HoldJust (declared_by tables.now) self.old }
+        ensures { HoldJust (declared_by tables.now) self.new }
+    {
+        match sought {
+            Sought::Subscribers => self.prepare_subscribers(alloc, tables),
+            Sought::Queryables | Sought::Complete => self.prepare_queryables(alloc, tables),
+        }
+    }
+
+    fn prepare_subscribers(&mut self, alloc: Global, tables: &TablesView)
+        requires { HoldJust (declared_by tables.now) self.old }
+        ensures { HoldJust (declared_by tables.now) self.new }
+    {
+        if self.subscribers.is_due(tables) {
+            self.subscribers = subscribers_of(alloc, tables);
+        }
+    }
+
+    fn prepare_queryables(&mut self, alloc: Global, tables: &TablesView)
+        requires { HoldJust (declared_by tables.now) self.old }
+        ensures { HoldJust (declared_by tables.now) self.new }
+    {
+        if self.queryables.is_due(tables) {
+            self.queryables = queryables_of(alloc, tables);
+        }
+    }
+
+    /// Those whose declarations of a kind that is sought meet a key, if there is an index, and memory to read it.
+    pub fn find(
+        &self,
+        alloc: Global,
+        tables: &TablesView,
+        sought: Sought,
+        key: &KeyExpr,
+    ) -> Option<Found>
+        requires { HoldJust (declared_by tables.now) self.now }
+        ensures { IfSome result (λ f. AreFound tables.now (by_meeting sought) key.now f) }
+    {
+        // Read, so that the proof knows that the logs are in order.
+        let _in_order = tables.known().logs();
+        match sought {
+            Sought::Subscribers => self.subscribers.find(alloc, key),
+            Sought::Queryables => self.queryables.find(alloc, key),
+            Sought::Complete => self.queryables.find(alloc, key),
+        }
+    }
+
+    // All that was declared is there.
+    fn put_all(&mut self, tables: &TablesView)
+        requires { HoldJust [] self.old }
+        ensures { HoldJust (declared_by tables.now) self.new }
+    {
+        self.put_logs(tables.me(), tables.known().logs());
+        self.put_rows(tables.local().rows());
     }
 }
 
-fn clients_meeting(alloc: Global, index: &Index<u32>, key: &KeyExpr) -> Result<Vec<u32>, AllocError>
-    ensures { IfOk result (λ v. AreMeeting nat_cmp key.now (held index.now) v.items) }
+// The index of all subscriptions.
+fn subscribers_of(alloc: Global, tables: &TablesView) -> KindIndex
+    ensures { HoldsJust (pairs_of Sought.Subscribers (declared_by tables.now)) result.index }
 {
-    let mut found = Vec::new(alloc);
-    index.meeting(key, &mut found)?;
-    Ok(found)
+    let mut holders = Holders {
+        subscribers: KindIndex::empty(alloc),
+        queryables: KindIndex::new(),
+    };
+    holders.put_all(tables);
+    holders.subscribers
 }
 
-fn sources_meeting(alloc: Global, index: &Index<Zid>, key: &KeyExpr) -> Result<Vec<Zid>, AllocError>
-    ensures { IfOk result (λ v. AreMeeting (slice_cmp nat_cmp) key.now (held index.now) v.items) }
+// The index of all queryables.
+fn queryables_of(alloc: Global, tables: &TablesView) -> KindIndex
+    ensures { HoldsJust (pairs_of Sought.Queryables (declared_by tables.now)) result.index }
 {
-    let mut found = Vec::new(alloc);
-    index.meeting(key, &mut found)?;
-    Ok(found)
-}
-
-fn clients_of(alloc: Global, rows: &[Row], sought: Sought) -> Result<Index<u32>, AllocError>
-    ensures { IfOk result (λ i. AreSame (held i) (of_clients sought rows.now)) }
-{
-    let mut index = Index::new(alloc);
-    for row in rows {
-        add_if_sought(&mut index, &row.decl, row.link.0, sought)?;
-    }
-    Ok(index)
-}
-
-fn sources_of(
-    alloc: Global,
-    logs: &[Log],
-    me: Zid,
-    sought: Sought,
-) -> Result<Index<Zid>, AllocError>
-    ensures { IfOk result (λ i. AreSame (held i) (of_sources sought me logs.now)) }
-{
-    let mut index = Index::new(alloc);
-    for log in logs {
-        add_other(&mut index, log, me, sought)?;
-    }
-    Ok(index)
-}
-
-// This router's own clients have links, by which they are found.
-fn add_other(index: &mut Index<Zid>, log: &Log, me: Zid, sought: Sought) -> Result<(), AllocError>
-    ensures { OnOk result (AreSame (held index.new) (of_log sought me log.now ++ held index.old)) }
-{
-    if log.source == me {
-        return Ok(());
-    }
-    add_log(index, log, sought)
-}
-
-fn add_log(index: &mut Index<Zid>, log: &Log, sought: Sought) -> Result<(), AllocError>
-    ensures { OnOk result (AreSame (held index.new) (pairs_of sought log.now.source log.now.decls ++ held index.old)) }
-{
-    for decl in log.decls.as_slice() {
-        add_if_sought(index, decl, log.source, sought)?;
-    }
-    Ok(())
-}
-
-fn add_if_sought<V: Drop + Copy + Ord>(
-    index: &mut Index<V>,
-    decl: &Decl,
-    who: V,
-    sought: Sought,
-) -> Result<(), AllocError>
-    ensures { OnOk result (AreSame (held index.new) (pair_of sought who decl.now ++ held index.old)) }
-{
-    if !is_kind(sought, decl.kind) {
-        return Ok(());
-    }
-    match index.add(&decl.key, who) {
-        Ok(()) => Ok(()),
-        Err(_) => Err(AllocError),
-    }
+    let mut holders = Holders {
+        subscribers: KindIndex::new(),
+        queryables: KindIndex::empty(alloc),
+    };
+    holders.put_all(tables);
+    holders.queryables
 }

@@ -9,12 +9,13 @@ ghost use Rattle.zr_graph.specs.Record.{has, IsAscending};
 ghost use Rattle.zr_id.specs.Zid.{is_named};
 ghost use Rattle.zr_push_sought.specs.Hops.{is_way_to, way_of};
 ghost use Rattle.zr_push_sought.specs.Sought.{by_meeting, is_in_log, leads_to};
-ghost use Rattle.zr_push_sought.specs.Found.{TellSources};
+ghost use Rattle.zr_push_sought.specs.Found.{has_holder, TellSources};
 ghost use Rattle.zr_node_spec.specs.Tables.{TableState};
 ghost use Rattle.zr_lists.specs.Ascending.{put};
 ghost use Rattle.zr_lists.specs.Place.{IsGap, IsPlace};
+ghost use Rattle.zr_local.specs.declared.holder.Holder.TheVariants.{Source};
 
-use crate::holders::Found;
+use crate::found::Found;
 use crate::search::is_in_log;
 use crate::sought::Sought;
 use std::alloc::{AllocError, Global};
@@ -60,7 +61,7 @@ impl Hops {
         sought: Sought,
         key: &KeyExpr,
     ) -> Result<Hops, AllocError>
-        requires { IfSome found (λ f. TellSources (by_meeting sought) key.now tables.now.base.me tables.now.known.logs f.now.sources.items) }
+        requires { IfSome found (λ f. TellSources (by_meeting sought) key.now tables.now.base.me tables.now.known.logs f.now.holders.items) }
         ensures { IfOk result (λ h. (name : List ℕ) → has h name ≡ leads_to tables.now tree sought key.now name) }
     {
         hops_to(
@@ -117,7 +118,7 @@ fn hops_to(
     key: &KeyExpr,
     logs: &[Log],
 ) -> Result<Hops, AllocError>
-    requires { IfSome found (λ f. TellSources (by_meeting sought) key.now tables.now.base.me logs.now f.now.sources.items) }
+    requires { IfSome found (λ f. TellSources (by_meeting sought) key.now tables.now.base.me logs.now f.now.holders.items) }
     ensures { IfOk result (λ h. (name : List ℕ) → has h name ≡ list_any (is_way_to tables.now tree sought key.now name) logs.now) }
 {
     let mut way = Way::of(tables.trees(), tree, tables.me());
@@ -128,7 +129,7 @@ fn hops_to(
     Ok(hops)
 }
 
-pub(crate) fn place_of(names: &[Zid], name: &Zid) -> Result<usize, usize>
+fn place_of(names: &[Zid], name: &Zid) -> Result<usize, usize>
     requires { IsAscending names.now }
     ensures { IsPlace (slice_cmp nat_cmp) (λ n. n) names.now name.now result }
 {
@@ -144,7 +145,7 @@ fn hop_to(
     key: &KeyExpr,
     log: &Log,
 ) -> Option<Zid>
-    requires { IfSome found (λ f. is_named log.now.source way.old.at ≡ false → has f.now.sources.items log.now.source ≡ is_in_log (by_meeting sought) key.now log.now) }
+    requires { IfSome found (λ f. is_named log.now.source way.old.at ≡ false → has_holder f.now.holders.items (Source log.now.source) ≡ is_in_log (by_meeting sought) key.now log.now) }
     ensures kept { way.new ≡ way.old }
     ensures hop { (t : TableState) (tree name : List ℕ) → way.old ≡ way_of t tree → option_map_or (λ y. is_named y name) result false ≡ is_way_to t tree sought key.now name log.now }
 {

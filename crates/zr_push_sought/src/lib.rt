@@ -3,7 +3,10 @@
 #![tactic(auto)]
 
 pub mod client_rows;
+pub mod found;
 pub mod holders;
 pub mod hops;
+mod keeping;
+mod kind_index;
 pub mod search;
 pub mod sought;

@@ -5,8 +5,8 @@ ghost use Rattle.std.specs.List.{list_any};
 ghost use Rattle.std.specs.List.Sorted.{IsNonDecreasingBy, IsPartitionPoint};
 ghost use Rattle.zr_node_spec.specs.Queries.{is_queryable, is_complete};
 ghost use Rattle.zr_node_spec.specs.Samples.{is_subscriber};
-ghost use Rattle.zr_graph.specs.Record.{has};
-ghost use Rattle.zr_push_sought.specs.Found.{TellClients};
+ghost use Rattle.zr_push_sought.specs.Found.{has_holder, TellClients};
+ghost use Rattle.zr_local.specs.declared.holder.Holder.TheVariants.{Source};
 ghost use Rattle.zr_push_sought.specs.Pairs.{is_kind};
 ghost use Rattle.zr_push_sought.specs.Sought.{by_meeting, is_sought, is_lower, has_declared, is_in_log};
 ghost use Rattle.zr_push_sought.specs.declared.sought.Sought.{Sought};
@@ -14,10 +14,11 @@ ghost use Rattle.zr_log_set.specs.Decls.{IsSet};
 ghost use Rattle.zr_msg.specs.Decl.{kind_rank};
 
 use crate::client_rows::ClientRows;
-use crate::holders::Found;
+use crate::found::Found;
 use crate::sought::Sought;
 use zr_id::link::LinkNo;
 use zr_key::key::KeyExpr;
+use zr_local::holder::Holder;
 use zr_local::row::Row;
 use zr_log::log::Log;
 use zr_match::{covers, meets};
@@ -32,12 +33,14 @@ pub fn has_declared(
     sought: Sought,
     key: &KeyExpr,
 ) -> bool
-    requires { IfSome found (λ f. TellClients (by_meeting sought) key.now rows.old f.now.clients.items) }
+    requires { IfSome found (λ f. TellClients (by_meeting sought) key.now rows.old f.now.holders.items) }
     ensures kept { rows.new ≡ rows.old }
     ensures has { result ≡ has_declared rows.old link.0 sought key.now }
 {
     match found {
-        Some(found) => found.has_client(link) && has_row_that_meets(rows, link, sought, key),
+        Some(found) => {
+            found.has(&Holder::Client(link)) && has_row_that_meets(rows, link, sought, key)
+        }
         None => has_row(rows, link, sought, key),
     }
 }
@@ -63,11 +66,13 @@ fn has_row(rows: &mut ClientRows, link: LinkNo, sought: Sought, key: &KeyExpr) -
 
 /// Whether the clients of a log's router have. Declarations of another kind are not looked at.
 pub(crate) fn is_in_log(log: &Log, found: Option<&Found>, sought: Sought, key: &KeyExpr) -> bool
-    requires { IfSome found (λ f. has f.now.sources.items log.now.source ≡ is_in_log (by_meeting sought) key.now log.now) }
+    requires { IfSome found (λ f. has_holder f.now.holders.items (Source log.now.source) ≡ is_in_log (by_meeting sought) key.now log.now) }
     ensures { result ≡ is_in_log sought key.now log.now }
 {
     match found {
-        Some(found) => found.has_source(&log.source) && has_decl_that_meets(log, sought, key),
+        Some(found) => {
+            found.has(&Holder::Source(log.source)) && has_decl_that_meets(log, sought, key)
+        }
         None => has_decl(log, sought, key),
     }
 }

@@ -1,7 +1,7 @@
 //! What is sought of declarations on the way of a sample or a request.
 
 ghost use Rattle.std.specs.Prelude.{◌≡◌};
-ghost use Rattle.zr_push_sought.specs.Sought.{by_meeting, sought_by, sought_number};
+ghost use Rattle.zr_push_sought.specs.Sought.{sought_by, sought_number};
 
 use zr_msg::msg::Target;
 
@@ -25,16 +25,6 @@ impl Sought {
             Sought::Subscribers => 0,
             Sought::Queryables => 1,
             Sought::Complete => 2,
-        }
-    }
-
-    /// What has all that is sought, and is found by meeting the key alone: who covers a key meets it.
-    pub fn by_meeting(self) -> Sought
-        ensures { result ≡ by_meeting self }
-    {
-        match self {
-            Sought::Subscribers => Sought::Subscribers,
-            Sought::Queryables | Sought::Complete => Sought::Queryables,
         }
     }
 }

@@ -83,7 +83,7 @@ impl Node {
         requires { IsFresh self.old link peer.now }
         ensures { OnOk result (self.new ≡ with_links self.old (with_link self.old.links (new_link link peer.now))) }
     {
-        self.routes.clear(); // they are of the links so far
+        self.routes.forget(); // they are of the links so far
         self.links.add(link, *peer)
     }
 
@@ -205,7 +205,7 @@ impl Node {
     fn remove(&mut self, link: LinkNo)
         ensures { self.new ≡ with_links self.old (without_link self.old.links link.0) }
     {
-        self.routes.clear(); // the link may stand on any of them
+        self.routes.forget(); // the link may stand on any of them
         self.links.remove(link);
     }
 }

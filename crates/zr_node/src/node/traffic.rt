@@ -40,7 +40,16 @@ impl Node {
         };
         let trees = take_trees(alloc, &mut self.trees, &self.base)?;
         let tables = lend(&self.links, &self.base, &trees, &self.local, &self.known);
-        let pushed = push(alloc, &tables, &mut self.routes, from, tree, content, out);
+        let pushed = push(
+            alloc,
+            &tables,
+            &mut self.holders,
+            &mut self.routes,
+            from,
+            tree,
+            content,
+            out,
+        );
         put_trees(&mut self.trees, trees);
         Ok(pushed?)
     }
@@ -90,6 +99,7 @@ impl Node {
         let asked = ask(
             alloc,
             &tables,
+            &mut self.holders,
             &mut self.routes,
             &mut self.pending,
             from,

@@ -21,14 +21,14 @@ pub returns-in-Some-find-clause-ok : goal.returns-in-Some-find-clause-ok
 returns-in-Some-find-clause-ok c = λ up at.
     on_ok_weaker _
     (along_tells c.args.tables.now c.args.from c.args.named c.in-Some.tree c.args.content.now up at c.in-Some.ensures c.stops.result.now
-    (c.stops.ensures ∙ c.in-Some-find.ensures c.args.tables.now c.requires ∙ ap (λ k. route_of c.args.tables.now c.in-Some.tree Subscribers k) c.key-key.ensures) _ _)
+    (c.stops.ensures ∙ c.in-Some-find.ensures c.args.tables.now c.requires.routes ∙ ap (λ k. route_of c.args.tables.now c.in-Some.tree Subscribers k) c.key-key.ensures) _ _)
     c.send_along.ensures.ok
 
 pub returns-in-Some-find-clause-err : goal.returns-in-Some-find-clause-err
 returns-in-Some-find-clause-err c = λ up at.
     on_err_weaker _
     (along_prefix c.args.tables.now c.args.from c.args.named c.in-Some.tree c.args.content.now up at c.in-Some.ensures c.stops.result.now
-    (c.stops.ensures ∙ c.in-Some-find.ensures c.args.tables.now c.requires ∙ ap (λ k. route_of c.args.tables.now c.in-Some.tree Subscribers k) c.key-key.ensures) _ _)
+    (c.stops.ensures ∙ c.in-Some-find.ensures c.args.tables.now c.requires.routes ∙ ap (λ k. route_of c.args.tables.now c.in-Some.tree Subscribers k) c.key-key.ensures) _ _)
     c.send_along.ensures.err
 
 -- and one that is worked out

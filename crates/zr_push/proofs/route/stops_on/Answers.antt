@@ -13,7 +13,7 @@ use Rattle.zr_push.proofs.route.stops_on.Goals as goal
 pub is_stop-requires : goal.is_stop-requires
 is_stop-requires c =
     IfSome_then c.args.found c.requires
-    (λ f h. subst (λ (rows : List Row). TellClients (by_meeting c.args.sought) c.args.key.now rows f.now.clients.items) (sym c.loop-link.invariant.rows) h)
+    (λ f h. subst (λ (rows : List Row). TellClients (by_meeting c.args.sought) c.args.key.now rows f.now.holders.items) (sym c.loop-link.invariant.rows) h)
 
 pub loop-link-preserved : goal.loop-link-preserved
 loop-link-preserved c =

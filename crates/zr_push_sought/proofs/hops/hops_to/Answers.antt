@@ -2,9 +2,10 @@ use Rattle.std.proofs.Common.{◌≡◌, ◌||◌, ◌+◌, ◌<◌, ℕ, Bool, 
 use Rattle.std.specs.List.{list_any}
 use Rattle.std.proofs.lemmas.List.{at_drop_more}
 use Rattle.std.proofs.lemmas.Option.{IfSome_then}
-use Rattle.zr_graph.specs.Record.{has}
 use Rattle.zr_id.specs.Zid.{is_named}
+use Rattle.zr_local.specs.declared.holder.Holder.TheVariants.{Source}
 use Rattle.zr_log.specs.declared.log.Log.{Log}
+use Rattle.zr_push_sought.specs.Found.{has_holder}
 use Rattle.zr_push_sought.specs.Hops.{is_way_to}
 use Rattle.zr_push_sought.specs.Sought.{by_meeting, is_in_log}
 use Rattle.zr_push_sought.proofs.Ways.{regroup, at_place}
@@ -24,7 +25,7 @@ pub hop_to-requires : goal.hop_to-requires
 hop_to-requires c =
     IfSome_then c.args.found c.requires
     (λ f all other.
-    at_place (λ l. is_named l.source c.args.tables.now.base.me ≡ false → has f.now.sources.items l.source ≡ is_in_log (by_meeting c.args.sought) c.args.key.now l) c.args.logs.now c.loop-log.log-index c.log-item.result (omega arith) c.log-item.is all
+    at_place (λ l. is_named l.source c.args.tables.now.base.me ≡ false → has_holder f.now.holders.items (Source l.source) ≡ is_in_log (by_meeting c.args.sought) c.args.key.now l) c.args.logs.now c.loop-log.log-index c.log-item.result (omega arith) c.log-item.is all
     (ap (λ (w : WayState). is_named c.log-item.result.source w.at) (sym c.loop-log.invariant.way) ∙ other))
 
 pub loop-log-preserved : goal.loop-log-preserved

@@ -9,5 +9,6 @@ invariant_of-self c =
       own = c.self.invariant.own;
       family = c.self.invariant.family;
       trees = c.self.invariant.trees;
-      routes = c.clear.ensures now;
+      holders = c.apply.ensures.holders c.self.inside.base.me c.self.inside.known.logs c.self.invariant.holders;
+      routes = c.forget.ensures now;
     }

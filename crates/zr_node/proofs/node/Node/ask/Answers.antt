@@ -8,6 +8,8 @@ use Rattle.zr_node_spec.specs.State.{NodeState}
 use Rattle.zr_node.specs.Done.{IsLeft, IsDone}
 use Rattle.zr_node.specs.Requests.{refuses_asker}
 use Rattle.zr_push.specs.Routes.{AreRoutes}
+use Rattle.zr_push_sought.specs.Holders.{HoldJust}
+use Rattle.zr_push_sought.specs.Pairs.{declared_by}
 use Rattle.zr_node.specs.Steps.{request_part, with_table}
 use Rattle.zr_node.proofs.Done.{nothing_sent}
 use Rattle.zr_node.proofs.Requests.{request_failed, request_late, request_left}
@@ -42,6 +44,7 @@ invariant_of-self-in_err-asked c =
       own = c.self.invariant.own;
       family = c.self.invariant.family;
       trees = subst (λ (o : Option (List RecordState)). IfSome o (λ r. r ≡ c.self.inside.base.records)) (sym c.put_trees.ensures) c.in_ok-trees.ensures.trees;
+      holders = subst (λ (t : TableState). HoldJust (declared_by t) c.ask-asked.new.holders) c.lend-tables.ensures c.ask-asked.ensures.holders;
       routes = subst (λ (t : TableState). AreRoutes c.ask-asked.new.routes t) c.lend-tables.ensures c.ask-asked.ensures.routes;
     }
 
@@ -52,6 +55,7 @@ invariant_of-self-2 c =
       own = c.self.invariant.own;
       family = c.self.invariant.family;
       trees = subst (λ (o : Option (List RecordState)). IfSome o (λ r. r ≡ c.self.inside.base.records)) (sym c.put_trees.ensures) c.in_ok-trees.ensures.trees;
+      holders = subst (λ (t : TableState). HoldJust (declared_by t) c.ask-asked.new.holders) c.lend-tables.ensures c.ask-asked.ensures.holders;
       routes = subst (λ (t : TableState). AreRoutes c.ask-asked.new.routes t) c.lend-tables.ensures c.ask-asked.ensures.routes;
     }
 

@@ -46,9 +46,9 @@ returns c =
 pub invariant_of-self-in_err-flood_up : goal.invariant_of-self-in_err-flood_up
 invariant_of-self-in_err-flood_up c =
     let before : TableState = record { links = c.self.inside.links; base = c.self.inside.base; rows = c.self.inside.local.rows; clients = c.self.inside.local.clients; known = c.self.inside.known } in
-    whole_anew before c.join.new.base c.forget.new.family c.forget.new.trees c.forget.new.routes (ap (λ (b : BaseState). b.me) c.in_ok-join.ensures.ok) c.self.invariant.links c.self.invariant.own c.forget.ensures.family c.forget.ensures.trees c.forget.ensures.routes
+    whole_anew before c.join.new.base c.forget.new.family c.forget.new.trees c.self.inside.holders c.forget.new.routes (ap (λ (b : BaseState). b.me) c.in_ok-join.ensures.ok) c.self.invariant.links c.self.invariant.own c.forget.ensures.family c.forget.ensures.trees c.self.invariant.holders c.forget.ensures.routes
 
 pub invariant_of-self-2 : goal.invariant_of-self-2
 invariant_of-self-2 c =
     let before : TableState = record { links = c.self.inside.links; base = c.self.inside.base; rows = c.self.inside.local.rows; clients = c.self.inside.local.clients; known = c.self.inside.known } in
-    whole_anew before c.join.new.base c.forget.new.family c.forget.new.trees c.forget.new.routes (ap (λ (b : BaseState). b.me) c.in_ok-join.ensures.ok) c.self.invariant.links c.self.invariant.own c.forget.ensures.family c.forget.ensures.trees c.forget.ensures.routes
+    whole_anew before c.join.new.base c.forget.new.family c.forget.new.trees c.self.inside.holders c.forget.new.routes (ap (λ (b : BaseState). b.me) c.in_ok-join.ensures.ok) c.self.invariant.links c.self.invariant.own c.forget.ensures.family c.forget.ensures.trees c.self.invariant.holders c.forget.ensures.routes

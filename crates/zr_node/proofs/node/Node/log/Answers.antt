@@ -1,4 +1,6 @@
-use Rattle.std.proofs.Common.{◌∙◌}
+use Rattle.std.proofs.Common.{ℕ, List, subst, ◌∙◌}
+use Rattle.zr_push_sought.specs.Holders.{HoldJust}
+use Rattle.zr_push_sought.specs.Pairs.{all_declared}
 use Rattle.zr_node_spec.specs.Tables.{TableState}
 use Rattle.zr_node.proofs.node.Node.log.Goals as goal
 
@@ -10,5 +12,8 @@ invariant_of-self c =
       own = c.log.ensures.me ∙ c.self.invariant.own;
       family = c.self.invariant.family;
       trees = c.self.invariant.trees;
-      routes = c.clear.ensures now;
+      holders =
+          subst (λ (me : List ℕ). HoldJust (all_declared c.self.inside.local.rows me c.self.inside.known.logs) c.self.inside.holders → HoldJust (all_declared c.self.inside.local.rows me c.log.new.known.logs) c.log.new.holders) c.self.invariant.own
+          (c.log.ensures.holders c.self.inside.local.rows) c.self.invariant.holders;
+      routes = c.forget.ensures now;
     }

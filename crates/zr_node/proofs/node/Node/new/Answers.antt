@@ -5,6 +5,7 @@ use Rattle.zr_msg.specs.declared.peer.LinkPeer.{LinkPeer}
 use Rattle.zr_node_spec.specs.Event.{AreLinks}
 use Rattle.zr_node_spec.specs.Tables.{TableState}
 use Rattle.zr_node_spec.proofs.AreLinks.{no_links}
+use Rattle.zr_push_sought.specs.Pairs.{declared_by}
 use Rattle.zr_node.proofs.node.Node.new.Goals as goal
 
 pub invariant_of-result : goal.invariant_of-result
@@ -15,5 +16,6 @@ invariant_of-result c =
       own = ap (λ (k : KnownState). k.me) c.new-4.ensures ∙ sym (ap (λ (b : BaseState). b.me) c.in_ok-base.ensures);
       family = tt;
       trees = tt;
-      routes = c.new-6.ensures now;
+      holders = c.new-6.ensures (declared_by now);
+      routes = c.new-7.ensures now;
     }

@@ -36,5 +36,6 @@ invariant_of-self-2 c =
       own = c.self.invariant.own;
       family = subst (λ (o : Option BaseState). IfSome o (λ b. b ≡ c.self.inside.base)) (sym c.put_family.ensures) c.in_ok-family.ensures.family;
       trees = c.self.invariant.trees;
+      holders = c.self.invariant.holders;
       routes = c.self.invariant.routes;
     }

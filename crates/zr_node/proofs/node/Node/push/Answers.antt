@@ -9,6 +9,8 @@ use Rattle.zr_node_spec.specs.State.{NodeState, tables}
 use Rattle.zr_node_spec.proofs.Links.{found_number}
 use Rattle.zr_node.specs.Done.{IsLeft, IsDone}
 use Rattle.zr_push.specs.Routes.{AreRoutes}
+use Rattle.zr_push_sought.specs.Holders.{HoldJust}
+use Rattle.zr_push_sought.specs.Pairs.{declared_by}
 use Rattle.zr_node.specs.Steps.{push_part}
 use Rattle.zr_node.proofs.Done.{lacked, nothing_sent}
 use Rattle.zr_node.proofs.Pushed.{at_itself}
@@ -46,6 +48,7 @@ invariant_of-self-in_err-pushed c =
       own = c.self.invariant.own;
       family = c.self.invariant.family;
       trees = subst (λ (o : Option (List RecordState)). IfSome o (λ r. r ≡ c.self.inside.base.records)) (sym c.put_trees.ensures) c.in_ok-trees.ensures.trees;
+      holders = subst (λ (t : TableState). HoldJust (declared_by t) c.push-pushed.new.holders) c.lend-tables.ensures c.push-pushed.ensures.holders;
       routes = subst (λ (t : TableState). AreRoutes c.push-pushed.new.routes t) c.lend-tables.ensures c.push-pushed.ensures.routes;
     }
 
@@ -56,6 +59,7 @@ invariant_of-self-2 c =
       own = c.self.invariant.own;
       family = c.self.invariant.family;
       trees = subst (λ (o : Option (List RecordState)). IfSome o (λ r. r ≡ c.self.inside.base.records)) (sym c.put_trees.ensures) c.in_ok-trees.ensures.trees;
+      holders = subst (λ (t : TableState). HoldJust (declared_by t) c.push-pushed.new.holders) c.lend-tables.ensures c.push-pushed.ensures.holders;
       routes = subst (λ (t : TableState). AreRoutes c.push-pushed.new.routes t) c.lend-tables.ensures c.push-pushed.ensures.routes;
     }
 

@@ -14,5 +14,6 @@ invariant_of-self c =
       own = c.self.invariant.own;
       family = c.self.invariant.family;
       trees = c.self.invariant.trees;
-      routes = c.clear.ensures now;
+      holders = c.self.invariant.holders;
+      routes = c.forget.ensures now;
     }

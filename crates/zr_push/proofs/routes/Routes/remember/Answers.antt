@@ -5,9 +5,5 @@ use Rattle.zr_push.proofs.routes.Routes.remember.Goals as goal
 
 pub returns : goal.returns
 returns c = λ t right is.
-    let room = c.make_room.ensures.right t right in (
-      put_right t c.make_room.new.self.known c.insert.new.self _ _ c.in_ok-insert.ensures.updates room.0
-          (is ∙ ap (λ (key : List ℕ). route_of t c.args.tree c.args.sought key) (sym c.in_ok-key.ensures)),
-      room.1,
-      room.2,
-    )
+    put_right t c.make_room.new.self.known c.insert.new.self _ _ c.in_ok-insert.ensures.updates (c.make_room.ensures.right t right)
+    (is ∙ ap (λ (key : List ℕ). route_of t c.args.tree c.args.sought key) (sym c.in_ok-key.ensures))

@@ -1,0 +1,16 @@
+use Rattle.std.proofs.Common.{List, ◌++◌, sym, subst}
+use Rattle.zr_local.specs.declared.row.Row.{Row}
+use Rattle.zr_node.specs.Holding.{rows_but}
+use Rattle.zr_node.specs.declared.holding.Touched.{Touched}
+use Rattle.zr_push_sought.specs.Holders.{HoldJust}
+use Rattle.zr_push_sought.specs.Pairs.{of_clients}
+use Rattle.zr_node.proofs.holding.take.Goals as goal
+
+pub returns-in-Row-clause-holders : goal.returns-in-Row-clause-holders
+returns-in-Row-clause-holders c = λ rest.
+    subst (λ (rows : List Row). HoldJust (of_clients rows ++ rest) c.args.holders.now → HoldJust (of_clients (rows_but rows c.args.place.now) ++ rest) c.take_row.new.self) c.rows-rows.ensures.value
+    (subst (λ (place : Touched). HoldJust (of_clients c.rows-rows.result.now ++ rest) c.args.holders.now → HoldJust (of_clients (rows_but c.rows-rows.result.now place) ++ rest) c.take_row.new.self) (sym c.in-Row.is) (c.take_row.ensures rest))
+
+pub returns-in-Client-clause-holders : goal.returns-in-Client-clause-holders
+returns-in-Client-clause-holders c = λ rest.
+    subst (λ (place : Touched). HoldJust (of_clients c.args.local.now.rows ++ rest) c.args.holders.now → HoldJust (of_clients (rows_but c.args.local.now.rows place) ++ rest) c.take_client.new.self) (sym c.in-Client.is) (c.take_client.ensures rest)
