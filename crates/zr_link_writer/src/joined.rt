@@ -48,7 +48,7 @@ impl Joined {
     }
 
     /// Joins a parcel, a head with a body behind it, as one batch behind its length. What waits is written first where both are too much for one write.
-    #[tactic(auto, using(crate::proofs::Carrying::carries_written, crate::proofs::Carrying::carries_joined, crate::proofs::Carrying::prefix_more, crate::proofs::Carrying::prefix_written, crate::proofs::Carrying::prefix_none, crate::proofs::Waiting::waits_joined))]
+    #[tactic(auto, using(crate::proofs::Carrying::carries_written, crate::proofs::Carrying::carries_joined, zr_outside::proofs::Appending::prefix_more, zr_outside::proofs::Appending::prefix_written, zr_outside::proofs::Appending::prefix_none, crate::proofs::Waiting::waits_joined))]
     pub(crate) fn add<K: Sink, C: Clock>(
         &mut self,
         sink: &mut K,
@@ -99,7 +99,7 @@ impl Joined {
     }
 
     // Writes what waits, or a KEEP_ALIVE where nothing was written for a while.
-    #[tactic(auto, using(crate::proofs::Carrying::appends_none))]
+    #[tactic(auto, using(zr_outside::proofs::Appending::appends_none))]
     fn catch_up<K: Sink, C: Clock>(&mut self, sink: &mut K, clock: &mut C) -> Result<(), Stop>
         requires past { self.old.moment ≤ C.last clock.old }
         ensures empty { OnOk result (self.new.bytes.items ≡ []) }
@@ -124,7 +124,7 @@ impl Joined {
     }
 
     /// The ring has ended: writes what waits, and a CLOSE where there is a reason.
-    #[tactic(auto, using(crate::proofs::Carrying::appends_both, crate::proofs::Carrying::prefix_behind, crate::proofs::Carrying::appends_nothing_more, crate::proofs::Carrying::prefix_more, crate::proofs::Carrying::prefix_written))]
+    #[tactic(auto, using(zr_outside::proofs::Appending::appends_both, zr_outside::proofs::Appending::prefix_behind, zr_outside::proofs::Appending::appends_nothing_more, zr_outside::proofs::Appending::prefix_more, zr_outside::proofs::Appending::prefix_written))]
     pub(crate) fn finish<K: Sink, C: Clock>(
         &mut self,
         sink: &mut K,
@@ -148,7 +148,7 @@ impl Joined {
     }
 
     /// Writes what waits, all in one.
-    #[tactic(auto, using(crate::proofs::Carrying::appends_none))]
+    #[tactic(auto, using(zr_outside::proofs::Appending::appends_none))]
     pub(crate) fn flush<K: Sink, C: Clock>(
         &mut self,
         sink: &mut K,

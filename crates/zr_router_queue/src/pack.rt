@@ -8,7 +8,7 @@ ghost use Rattle.zr_frame.specs.Outbox.{advanced, with_names};
 ghost use Rattle.zr_frame.specs.Packing.{one_parcel, parcels};
 ghost use Rattle.zr_frame_pack.specs.Marks.{IsLater};
 ghost use Rattle.zr_frame_pack.specs.Packing as packing;
-ghost use Rattle.zr_frame_pack.specs.Packing.{parcels_of};
+ghost use Rattle.zr_frame_pack.specs.Packing.{parcels_of, written_one};
 ghost use Rattle.zr_frame_pack.specs.Writable.{IsWritable};
 ghost use Rattle.zr_wire.specs.Writing.{writes_message};
 ghost use Rattle.zr_router_queue.specs.Batches.{batches_in, bytes_on, written_of};
@@ -109,7 +109,7 @@ fn pack_one(
 {
     match in_frame(msg, bytes, outbox, scratch)? {
         Some(batch) => Ok(Batches::One(batch)),
-        None => pack_apart(alloc, msg, outbox),
+        None => pack_apart(alloc, msg, bytes, outbox),
     }
 }
 
@@ -170,15 +170,43 @@ fn behind_head(
 }
 
 // Packs one message of whose key a number is declared, or that fits no frame.
-fn pack_apart(alloc: Global, msg: &Msg, outbox: &mut NamingOutbox) -> Result<Batches, AllocError>
-    requires { IsWritable msg.now }
+fn pack_apart(
+    alloc: Global,
+    msg: &Msg,
+    bytes: &Shared<ByteString>,
+    outbox: &mut NamingOutbox,
+) -> Result<Batches, AllocError>
+    requires writable { IsWritable msg.now }
+    requires bytes { bytes.now ≡ writes_message msg.now }
     ensures batches { IfOk result (λ b. batches_in b ≡ (parcels_of outbox.old (msg.now ∷ [])).batches) }
     ensures outbox { OnOk result (outbox.new ≡ (parcels_of outbox.old (msg.now ∷ [])).outbox) }
     ensures later { IsLater outbox.old.names outbox.new.names }
 {
     let mut messages = Vec::new(alloc);
-    outbox.put(alloc, msg, &mut messages)?;
+    put(alloc, msg, bytes, outbox, &mut messages)?;
     in_batches(alloc, &messages, outbox)
+}
+
+// Appends what is written of a message: its bytes where its key goes whole, and else those of the message under a number.
+#[tactic(auto, using(zr_frame_pack::proofs::NamesGiven::later_same))]
+fn put(
+    alloc: Global,
+    msg: &Msg,
+    bytes: &Shared<ByteString>,
+    outbox: &mut NamingOutbox,
+    messages: &mut Vec<ByteString>,
+) -> Result<(), AllocError>
+    requires writable { IsWritable msg.now }
+    requires bytes { bytes.now ≡ writes_message msg.now }
+    ensures messages { OnOk result (messages.new.items ≡ messages.old.items ++ (written_one outbox.old.names msg.now).messages) }
+    ensures names { OnOk result (outbox.new ≡ with_names outbox.old (written_one outbox.old.names msg.now).names) }
+    ensures later { IsLater outbox.old.names outbox.new.names }
+{
+    if outbox.number(msg).is_some() || outbox.gives_number(msg) {
+        return outbox.put(alloc, msg, messages);
+    }
+    messages.push(bytes.get().copy(alloc)?)?;
+    Ok(())
 }
 
 fn pack_all(
@@ -238,7 +266,7 @@ fn messages(
     ensures later { IsLater outbox.old.names outbox.new.names }
 {
     if outbox.has_names() {
-        return named(alloc, sent, link, outbox);
+        return named(alloc, sent, written, link, outbox);
     }
     copies(alloc, written, link)
 }
@@ -247,18 +275,20 @@ fn messages(
 fn named(
     alloc: Global,
     sent: &[(LinkNo, Msg)],
+    written: &[(LinkNo, Shared<ByteString>)],
     link: LinkNo,
     outbox: &mut NamingOutbox,
 ) -> Result<Vec<ByteString>, AllocError>
-    requires { All (λ x. IsWritable x.1) sent.now }
+    requires writable { All (λ x. IsWritable x.1) sent.now }
+    requires written { written.now ≡ written_of sent.now }
     ensures messages { IfOk result (λ w. w.items ≡ (packing.written outbox.old.names (on_link link sent.now)).messages) }
     ensures names { OnOk result (outbox.new ≡ with_names outbox.old (packing.written outbox.old.names (on_link link sent.now)).names) }
     ensures later { IsLater outbox.old.names outbox.new.names }
 {
     let mut messages = Vec::new(alloc);
-    for (to, msg) in sent {
+    for (place, (to, msg)) in sent.iter().enumerate() {
         if to.0 == link.0 {
-            outbox.put(alloc, msg, &mut messages)?;
+            put(alloc, msg, &written[place].1, outbox, &mut messages)?;
         }
     }
     Ok(messages)

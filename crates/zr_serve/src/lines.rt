@@ -33,7 +33,7 @@ impl Unsaid {
 }
 
 /// The line that a router is served, once it listens.
-#[tactic(auto, using(zr_link_writer::proofs::Carrying::prefix_none))]
+#[tactic(auto, using(zr_outside::proofs::Appending::prefix_none))]
 pub(crate) fn say_serving<K: Sink>(alloc: Global, id: &Zid, out: &mut K) -> Result<(), Unsaid>
     ensures said { OnOk result (Appends (serving_text id.now) (K.held out.old) (K.held out.new)) }
     ensures part { OnErr result (AppendsPrefix (serving_text id.now) (K.held out.old) (K.held out.new)) }
@@ -48,7 +48,7 @@ pub(crate) fn say_serving<K: Sink>(alloc: Global, id: &Zid, out: &mut K) -> Resu
 }
 
 /// The line that an address was dialled in vain. It is one write, since links that were dialled before may have logs, whose threads write to the same output.
-#[tactic(auto, using(zr_link_writer::proofs::Carrying::prefix_none))]
+#[tactic(auto, using(zr_outside::proofs::Appending::prefix_none))]
 pub(crate) fn say_not_dialled<K: Sink>(
     alloc: Global,
     address: &str,
@@ -67,7 +67,7 @@ pub(crate) fn say_not_dialled<K: Sink>(
 }
 
 /// The line that the router's identifier was in use before. It is one write, since links may have logs.
-#[tactic(auto, using(zr_link_writer::proofs::Carrying::prefix_none))]
+#[tactic(auto, using(zr_outside::proofs::Appending::prefix_none))]
 pub(crate) fn say_used<K: Sink>(alloc: Global, id: &Zid, out: &mut K) -> Result<(), Unsaid>
     ensures said { OnOk result (Appends (used_text id.now) (K.held out.old) (K.held out.new)) }
     ensures part { OnErr result (AppendsPrefix (used_text id.now) (K.held out.old) (K.held out.new)) }
@@ -90,7 +90,7 @@ pub(crate) fn say_not_listening<K: Sink>(address: &str, out: &mut K)
 }
 
 // It is three writes, which ask for no memory, so that only a write that fails can keep the line back. No link is there yet whose log could come between.
-#[tactic(auto, using(zr_link_writer::proofs::Carrying::appends_both, zr_link_writer::proofs::Carrying::prefix_more, zr_link_writer::proofs::Carrying::prefix_written, zr_link_writer::proofs::Carrying::prefix_behind))]
+#[tactic(auto, using(zr_outside::proofs::Appending::appends_both, zr_outside::proofs::Appending::prefix_more, zr_outside::proofs::Appending::prefix_written, zr_outside::proofs::Appending::prefix_behind))]
 fn say_failed<K: Sink>(head: &str, address: &str, out: &mut K) -> Result<(), WriteFailed>
     ensures said { OnOk result (Appends (failed_text head.now address.now) (K.held out.old) (K.held out.new)) }
     ensures part { OnErr result (AppendsPrefix (failed_text head.now address.now) (K.held out.old) (K.held out.new)) }

@@ -402,7 +402,7 @@ where
 }
 
 // Tells that the router's identifier was in use before, if the router has heard so and it wasn't told yet. The answer is whether it is told now.
-#[tactic(auto, using(zr_link_writer::proofs::Carrying::appends_none))]
+#[tactic(auto, using(zr_outside::proofs::Appending::appends_none))]
 fn tell_used<
     E: Sink,
     P: Glancing + Send + Sync + Drop + 'static,

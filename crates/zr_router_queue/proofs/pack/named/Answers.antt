@@ -12,42 +12,42 @@ use Rattle.zr_router_queue.proofs.Plans.{on_next, on_other}
 use Rattle.zr_router_queue.proofs.pack.named.Goals.{then-to-link+in_ok-put, else-to-link}
 use Rattle.zr_router_queue.proofs.pack.named.Goals as goal
 
-pub loop-to-init : goal.loop-to-init
-loop-to-init c = put_none c.args.outbox.now _ (on_link c.args.link c.args.sent.now) (search rules)
+pub loop-place-init : goal.loop-place-init
+loop-place-init c = put_none c.args.outbox.now _ (on_link c.args.link c.args.sent.now) (search rules)
 
-pub loop-to-preserved : goal.loop-to-preserved
-loop-to-preserved c =
-    let l = c.loop-to in
+pub loop-place-preserved : goal.loop-place-preserved
+loop-place-preserved c =
+    let l = c.loop-place in
     let start = c.args.outbox.now in
-    let x : LinkNo × Msg = c.loop-to-item.result in
-    let rest : List (LinkNo × Msg) = drop (l.to-index + 1) c.args.sent.now in
+    let x : LinkNo × Msg = c.index-sent-place.result in
+    let rest : List (LinkNo × Msg) = drop (l.place + 1) c.args.sent.now in
     let all = written start.names (on_link c.args.link c.args.sent.now) in
-    let here : on_link c.args.link (drop l.to-index c.args.sent.now) ≡ on_link c.args.link (x ∷ rest) =
-    at_drop_more (λ z. on_link c.args.link z) c.args.sent.now l.to-index x c.loop-to-test.true ∙ ap (λ y. on_link c.args.link (y ∷ rest)) (sym c.loop-to-item.is) in
+    let here : on_link c.args.link (drop l.place c.args.sent.now) ≡ on_link c.args.link (x ∷ rest) =
+    at_drop_more (λ z. on_link c.args.link z) c.args.sent.now l.place x c.loop-place-test.true ∙ ap (λ y. on_link c.args.link (y ∷ rest)) (sym c.index-sent-place.is) in
     elim c.if-to-link.branch [
       | then-to-link+in_ok-put w ↦
           let first = here ∙ on_next c.args.link x rest (search rules) in
-          put_more start all l.messages.items c.if-to-link.messages.items l.outbox c.if-to-link.outbox x.1 (on_link c.args.link (drop l.to-index c.args.sent.now)) (on_link c.args.link rest)
+          put_more start all l.messages.items c.if-to-link.messages.items l.outbox c.if-to-link.outbox x.1 (on_link c.args.link (drop l.place c.args.sent.now)) (on_link c.args.link rest)
           l.invariant.0 l.invariant.1 l.invariant.2 first (ap (λ v. v.items) w.messages-is ∙ w.in_ok-put.ensures.messages) (w.outbox-is ∙ w.in_ok-put.ensures.names)
           (subst (λ (z : OutboxState). IsLater l.outbox.names z.names) (sym w.outbox-is) w.put.ensures.later)
       | else-to-link w ↦
           let same = here ∙ on_other c.args.link x rest (search rules) in
           rw (w.messages-is, w.outbox-is)
-          (put_other start all l.messages.items l.outbox (on_link c.args.link (drop l.to-index c.args.sent.now)) (on_link c.args.link rest) l.invariant.0 l.invariant.1 l.invariant.2 same)
+          (put_other start all l.messages.items l.outbox (on_link c.args.link (drop l.place c.args.sent.now)) (on_link c.args.link rest) l.invariant.0 l.invariant.1 l.invariant.2 same)
     ]
 
 pub returns-clause-messages : goal.returns-clause-messages
 returns-clause-messages c =
-    (put_all c.args.outbox.now (written c.args.outbox.now.names (on_link c.args.link c.args.sent.now)) c.loop-to.messages.items c.loop-to.outbox _ c.loop-to.invariant.0 c.loop-to.invariant.1
-    (at_drop_all (λ z. on_link c.args.link z) c.args.sent.now c.loop-to.to-index (omega arith))).0
+    (put_all c.args.outbox.now (written c.args.outbox.now.names (on_link c.args.link c.args.sent.now)) c.loop-place.messages.items c.loop-place.outbox _ c.loop-place.invariant.0 c.loop-place.invariant.1
+    (at_drop_all (λ z. on_link c.args.link z) c.args.sent.now c.loop-place.place (omega arith))).0
 
 pub returns-clause-names : goal.returns-clause-names
 returns-clause-names c =
-    (put_all c.args.outbox.now (written c.args.outbox.now.names (on_link c.args.link c.args.sent.now)) c.loop-to.messages.items c.loop-to.outbox _ c.loop-to.invariant.0 c.loop-to.invariant.1
-    (at_drop_all (λ z. on_link c.args.link z) c.args.sent.now c.loop-to.to-index (omega arith))).1
+    (put_all c.args.outbox.now (written c.args.outbox.now.names (on_link c.args.link c.args.sent.now)) c.loop-place.messages.items c.loop-place.outbox _ c.loop-place.invariant.0 c.loop-place.invariant.1
+    (at_drop_all (λ z. on_link c.args.link z) c.args.sent.now c.loop-place.place (omega arith))).1
 
 pub returns-in_err-put-clause-later : goal.returns-in_err-put-clause-later
-returns-in_err-put-clause-later c = later_then c.args.outbox.now.names c.loop-to.outbox.names c.put.new.self.names c.loop-to.invariant.2 c.put.ensures.later
+returns-in_err-put-clause-later c = later_then c.args.outbox.now.names c.loop-place.outbox.names c.put.new.outbox.names c.loop-place.invariant.2 c.put.ensures.later
 
 pub returns-clause-later : goal.returns-clause-later
-returns-clause-later c = c.loop-to.invariant.2
+returns-clause-later c = c.loop-place.invariant.2

@@ -5,9 +5,9 @@ use Rattle.zr_frame_pack.specs.Marks.{IsLater}
 use Rattle.zr_frame_pack.specs.Packing.{before, written}
 use Rattle.zr_router_queue.proofs.pack.named.Given as goal
 
-abbrev pub invariant-loop-to : goal.invariant-loop-to
-invariant-loop-to l =
-    (before (record { messages = l.messages.items; names = l.outbox.names }) (λ next. written next (on_link l.link (drop l.to-index l.sent)))
+abbrev pub invariant-loop-place : goal.invariant-loop-place
+invariant-loop-place l =
+    (before (record { messages = l.messages.items; names = l.outbox.names }) (λ next. written next (on_link l.link (drop l.place l.sent)))
     ≡ written l.fn.outbox.names (on_link l.link l.initial.sent))
     × (l.outbox ≡ with_names l.fn.outbox l.outbox.names)
     × IsLater l.fn.outbox.names l.outbox.names
