@@ -8,7 +8,7 @@ use Rattle.zr_local.specs.Rows.{Key, refuses_undeclare}
 use Rattle.zr_local.specs.State.{refuses_declare, refuses_interest}
 use Rattle.zr_local.specs.declared.interest.Interest.{Interest}
 use Rattle.zr_local.specs.declared.row.Row.{Row}
-use Rattle.zr_log.specs.Known.{is_newer, refuses_snap, refuses_step}
+use Rattle.zr_log.specs.Known.{is_newer, refuses_step}
 use Rattle.zr_log.specs.Log.{Change}
 use Rattle.zr_log.specs.declared.error.KnownError.{KnownError}
 use Rattle.zr_log.specs.declared.error.KnownError.TheVariants as known

@@ -1,16 +1,15 @@
 -- What is held of who has declared what, as a client or a log changes it: what stands at the place goes, and what stands there then comes.
 use Rattle.std.proofs.Common.{◌≡◌, ℕ, ◌+◌, ◌==◌, ◌&&◌, not, nat_lt, Bool, true, false, cond, List, [], ◌∷◌, ◌++◌, Option, Some, Result, Ok, Err, OnOk, OnErr, refl, sym, ap, subst, ◌∙◌}
 use Rattle.std.specs.Cmp.Lexicographic.{slice_cmp}
-use Rattle.std.specs.List.{fold}
 use Rattle.std.specs.Option.{option_map_or}
-use Rattle.std.specs.Ordering.{is_eq, nat_cmp}
+use Rattle.std.specs.Ordering.{nat_cmp}
 use Rattle.std.proofs.lemmas.Bool.{and_parts}
 use Rattle.zr_id.specs.Zid.{is_named}
 use Rattle.zr_lists.specs.Ascending.{IsAscending, at_key}
 use Rattle.zr_lists.proofs.Order.{is_itself, name_order}
 use Rattle.zr_lists.proofs.Puts.{at-put}
 use Rattle.zr_local.proofs.Rows.{key_order}
-use Rattle.zr_local.specs.Rows.{AreInOrder, key_cmp, row_key, left}
+use Rattle.zr_local.specs.Rows.{AreInOrder, key_cmp, row_key}
 use Rattle.zr_local.specs.State.{LocalState}
 use Rattle.zr_local.specs.declared.changes.Changes.{Changes}
 use Rattle.zr_local.specs.declared.row.Row.{Row}

@@ -28,7 +28,7 @@ use Rattle.zr_node.specs.Done.{Part, IsLeft, IsDone}
 use Rattle.zr_node.specs.Requests.{refuses_asker}
 use Rattle.zr_node.specs.Steps.{after_asking, pending_of, request_part, with_table}
 use Rattle.zr_node.specs.declared.failure.NodeFailure.{NodeFailure}
-use Rattle.zr_node.specs.declared.failure.NodeFailure.TheVariants.{Refused, NoMemory}
+use Rattle.zr_node.specs.declared.failure.NodeFailure.TheVariants.{Refused}
 use Rattle.zr_node.proofs.Done.{failed, lacked}
 use Rattle.zr_node.proofs.Early.{worn_late}
 

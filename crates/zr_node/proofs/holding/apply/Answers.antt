@@ -1,7 +1,6 @@
 use Rattle.std.proofs.Common.{List, ◌++◌, sym, ap, subst, ◌∙◌}
 use Rattle.zr_local.specs.declared.row.Row.{Row}
-use Rattle.zr_node.specs.Holding.{rows_but, touched}
-use Rattle.zr_node.specs.declared.holding.Touched.{Touched}
+use Rattle.zr_node.specs.Holding.{rows_but}
 use Rattle.zr_node.proofs.HeldAfter.{untouched}
 use Rattle.zr_push_sought.specs.Holders.{HoldJust}
 use Rattle.zr_push_sought.specs.Pairs.{of_clients, of_sources}
