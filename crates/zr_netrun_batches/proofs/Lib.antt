@@ -1,0 +1,5 @@
+pub mod Batch
+pub mod Feeding
+pub mod Opens
+pub mod Sending
+pub mod Tags

@@ -1,0 +1,4 @@
+pub mod Coming
+pub mod Line
+pub mod Opening
+pub mod Way

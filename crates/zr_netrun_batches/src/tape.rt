@@ -1,0 +1,98 @@
+//! Bytes on a wire: batches come behind them, and they are read from the front.
+
+ghost use Rattle.std.specs.Prelude.{◌≡◌, ◌<◌, ◌≤◌, ◌^◌, ◌++◌, ◌==◌, [], drop, take, length, OnOk};
+ghost use Rattle.std.specs.List.{AllByRecursion, flat_map};
+ghost use Rattle.zr_frame_batch.specs.Framing.{framed};
+
+use std::alloc::{AllocError, Global};
+use std::marker::Model;
+use zr_bytes::ByteString;
+use zr_frame_batch::put_batch;
+
+/// Contracts see the bytes that were not read.
+#[derive(Drop)]
+pub struct Tape {
+    bytes: Vec<u8>,
+    // so many of them were read
+    read: usize,
+}
+
+impl Model for Tape {
+    ghost use Rattle.std.specs.Prelude.{◌≤◌, List, ℕ, drop, length};
+
+    ghost Value = { List ℕ };
+
+    ghost view = { λ t. drop t.read t.bytes.items };
+
+    ghost invariant = { λ t. t.read ≤ length t.bytes.items };
+}
+
+impl Tape {
+    /// No bytes.
+    pub fn new(alloc: Global) -> Tape
+        ensures { result ≡ [] }
+    {
+        Tape {
+            bytes: Vec::new(alloc),
+            read: 0,
+        }
+    }
+
+    /// Whether all bytes were read.
+    pub fn is_empty(&self) -> bool
+        ensures { result ≡ (length self.now == 0) }
+    {
+        self.bytes.len() == self.read
+    }
+
+    /// Batches come behind the bytes, each behind its length.
+    pub fn put(&mut self, batches: &[ByteString]) -> Result<(), AllocError>
+        requires { AllByRecursion (λ batch. length batch < 2 ^ 16) batches.now }
+        ensures { OnOk result (self.new ≡ self.old ++ flat_map (λ batch. framed batch) batches.now) }
+    {
+        self.let_go();
+        put_batches(&mut self.bytes, batches)
+    }
+
+    // The memory of bytes that were read is used again, where all were.
+    fn let_go(&mut self)
+        ensures { self.new ≡ self.old }
+    {
+        if self.bytes.len() == self.read {
+            self.bytes.clear();
+            self.read = 0;
+        }
+    }
+
+    /// The next bytes, so many at most.
+    pub fn front(&self, most: usize) -> &[u8]
+        ensures { result.now ≡ take most self.now }
+    {
+        let left = &self.bytes[self.read..];
+        if most < left.len() {
+            &left[..most]
+        } else {
+            left
+        }
+    }
+
+    /// So many bytes were read.
+    pub fn pass(&mut self, count: usize)
+        requires { count ≤ length self.old }
+        ensures { self.new ≡ drop count self.old }
+    {
+        self.read += count;
+    }
+}
+
+// Batches come behind bytes. Where memory runs out some of them may have.
+fn put_batches(bytes: &mut Vec<u8>, batches: &[ByteString]) -> Result<(), AllocError>
+    requires { AllByRecursion (λ batch. length batch < 2 ^ 16) batches.now }
+    ensures put { OnOk result (bytes.new.items ≡ bytes.old.items ++ flat_map (λ batch. framed batch) batches.now) }
+    ensures kept { length bytes.old.items ≤ length bytes.new.items }
+{
+    for batch in batches {
+        put_batch(bytes, batch.as_slice())?;
+    }
+    Ok(())
+}
