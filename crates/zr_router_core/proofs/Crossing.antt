@@ -9,7 +9,7 @@ use Rattle.zr_index.proofs.node.Node.TheLaws.TheKnot.{crosses as index_crosses}
 use Rattle.zr_log.proofs.known.Known.TheSendSync.{the_send as known_send}
 use Rattle.zr_local.proofs.local.Local.TheSendSync.{the_send as local_send}
 use Rattle.zr_pend.proofs.pending.Pending.TheSendSync.{the_send as pending_send}
-use Rattle.zr_push_sought.specs.contracts.kind_index.KindIndex.{the_row as kind_index}
+use Rattle.zr_push_sought.specs.contracts.kind_index.KindIndex.{the_field as kind_index}
 use Rattle.zr_push_sought.specs.contracts.holders.Holders.{the_field as holders}
 use Rattle.zr_push.proofs.routes.Remembered.TheSendSync.{the_send as remembered_send}
 use Rattle.zr_push.specs.contracts.routes.Routes.{the_field as routes}
@@ -19,7 +19,7 @@ use Rattle.zr_told.proofs.told.Told.TheSendSync.{the_send as told_send}
 use Rattle.zr_told_interested.specs.contracts.by_key.ByKey.{the_field as by_key}
 use Rattle.zr_router_core.specs.contracts.hub.Hub.{the_row as hub}
 
-pub kind_index_send : IsSend kind_index
+pub kind_index_send : IsSend kind_index.row
 kind_index_send = search (maps_cross, crosses, index_crosses, sendable) depth 60 fits 20000
 
 pub holders_send : IsSend holders.row
