@@ -10,4 +10,5 @@ mod reading;
 mod word;
 
 pub use fault::{PolicyError, PolicyFault};
+pub use line::MOST_LINE;
 pub use policy::{Act, DefaultRule, Policy, Rule, Verdict};

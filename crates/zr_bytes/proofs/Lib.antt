@@ -2,3 +2,4 @@ pub mod Groups
 pub mod Steps
 pub mod Numbers
 pub mod Texts
+pub mod Fronts

@@ -1,10 +1,14 @@
 -- Steps that may be refused: what a step gave, and why it gave nothing.
-use Rattle.std.proofs.Common.{◌≡◌, Result, Ok, Err, Bool, true, false, cond, refl, inl, inr, ◌⊎◌}
+use Rattle.std.proofs.Common.{◌≡◌, ℕ, List, Result, Ok, Err, Bool, true, false, cond, refl, inl, inr, ◌⊎◌}
 use Rattle.zr_bytes.specs.declared.read_error.ReadError.{ReadError}
-use Rattle.zr_bytes.specs.Reading.{◌>>=◌}
+use Rattle.zr_bytes.specs.Reading.{Read, ◌>>=◌}
 
 abbrev fine : {A : Type 0} → A → Result A ReadError
 fine x = Ok x
+
+-- a reading that gives this, with these bytes left
+abbrev pub done : {X : Type 0} → X → List ℕ → Read X
+done x rest = Ok (x, rest)
 
 pub ok_is : {A : Type 0} (x y : A) → fine x ≡ fine y → x ≡ y
 ok_is x y e = cc

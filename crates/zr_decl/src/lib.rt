@@ -15,6 +15,6 @@ pub use laws::{
     interests_have_one_reading, spelled_declarations_are_written, spelled_interests_are_written,
     written_declarations_are_read, written_interests_are_read, written_names_are_read,
 };
-pub use parts::INTEREST;
+pub use parts::{INTEREST, NODE_ID, QOS, TIMESTAMP};
 pub use reading::{read_decl, read_declare, read_wire_key};
 pub use writing::write_decl;

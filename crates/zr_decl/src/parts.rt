@@ -38,12 +38,12 @@ pub(crate) const RESTRICTED: u8 = 0x10;
 
 pub(crate) const AGGREGATE: u8 = 0x80;
 
-/// The extensions of messages that are known: quality of service, timestamp and node id.
-pub(crate) const QOS: u8 = 1;
-
-pub(crate) const TIMESTAMP: u8 = 2;
-
-pub(crate) const NODE_ID: u8 = 3;
+/// The id of the extension of a network message that has its quality of service.
+pub const QOS: u8 = 1;
+/// The id of the extension that has its timestamp.
+pub const TIMESTAMP: u8 = 2;
+/// The id of the extension that has a node id, of all network messages but a RESPONSE.
+pub const NODE_ID: u8 = 3;
 /// What a subscriber or a queryable says of itself.
 pub(crate) const INFO: u8 = 1;
 /// The key of an undeclaration.

@@ -5,7 +5,7 @@ use Rattle.std.proofs.lemmas.List.{append-nil}
 use Rattle.zr_bytes.specs.declared.read_error.ReadError.{ReadError}
 use Rattle.zr_bytes.specs.declared.read_error.ReadError.TheVariants.{Short}
 use Rattle.zr_bytes.specs.Reading.{Read, ◌>>=◌, Fails, byte_of, number_of, text_of}
-use Rattle.zr_bytes.proofs.Steps.{ok_is, bind_ok, bind_err, not_both}
+use Rattle.zr_bytes.proofs.Steps.{ok_is, bind_ok, bind_err, not_both, done}
 use Rattle.zr_ext.specs.declared.ext.Ext.{Ext}
 use Rattle.zr_ext.specs.declared.ext.Content.{Content}
 use Rattle.zr_ext.specs.declared.ext.Content.TheVariants as content
@@ -72,9 +72,6 @@ after_one (e ∷ found) exts x = before_one e x found exts (after_one found exts
 -- what is kept in the end, where this was found before it
 abbrev pub with_found : List (ℕ × Form) → List Ext → Read (List Ext) → Read (List Ext)
 with_found known found said = said >>= λ x. Ok (after found (filter (λ e. knows known e) x.0), x.1)
-
-abbrev done : {X : Type 0} → X → List ℕ → Read X
-done x rest = Ok (x, rest)
 
 with_found-one : (known : List (ℕ × Form)) (found : List Ext) (x : Ext) (said : Read (List Ext))
     → with_found known found (said >>= λ o. Ok (x ∷ o.0, o.1)) ≡ with_found known (with_one found (cond (knows known x) (Some x) None)) said

@@ -8,7 +8,7 @@ use Rattle.zr_bytes.specs.declared.read_error.ReadError.TheVariants.{Short, Unkn
 use Rattle.zr_bytes.specs.Flag.{has_flag}
 use Rattle.zr_bytes.specs.Spelling.{Begins, HasOneReading}
 use Rattle.zr_bytes.specs.Reading.{Read, ◌>>=◌, byte_of, number_of, number_below, text_of}
-use Rattle.zr_bytes.proofs.Steps.{ok_is, bind_ok, bind_err, not_both, guard_ok, guard_err}
+use Rattle.zr_bytes.proofs.Steps.{ok_is, bind_ok, bind_err, not_both, guard_ok, guard_err, done}
 use Rattle.zr_bytes.proofs.Numbers.{read_begins, begins_read, refused_inside, inside_refused, below_begins, begins_below, begins_above, inside_below, below_refused}
 use Rattle.zr_bytes.proofs.Texts.{text_begins, begins_text, begins_too_big, text_refused, inside_text}
 use Rattle.zr_ext.specs.declared.ext.Form.{Form}
@@ -27,9 +27,6 @@ pub record Follows {X : Type 0} (Ends : X → List ℕ → Type 0) (p : Format X
   pub again : (front rest : List ℕ) (x : X) → p.spelled x front → Ends x rest → read (front ++ rest) ≡ Ok (x, rest)
   pub refused : (bytes : List ℕ) (e : ReadError) → read bytes ≡ Err e → p.refused e bytes
   pub refuses : (bytes : List ℕ) (e : ReadError) → p.refused e bytes → read bytes ≡ Err e
-
-abbrev pub done : {X : Type 0} → X → List ℕ → Read X
-done x rest = Ok (x, rest)
 
 abbrev failed : {X : Type 0} → ReadError → Read X
 failed e = Err e

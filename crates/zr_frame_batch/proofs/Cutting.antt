@@ -79,7 +79,7 @@ cut_some (suc n) (a ∷ c ∷ bytes) h = by (λ b k. cut_some n b k) (a + 256 * 
 
 -- ---- what is written
 
-framed_is : (b : List ℕ) → length b < 2 ^ 16 → IsFramed (framed b) b
+pub framed_is : (b : List ℕ) → length b < 2 ^ 16 → IsFramed (framed b) b
 framed_is b h = (length b % 256, length b / 256, refl, omega (arith, h))
 
 pub written_cut : (bs : List (List ℕ)) → AllByRecursion (λ batch. length batch < 2 ^ 16) bs → Are (flat_map framed bs) bs []

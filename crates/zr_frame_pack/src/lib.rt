@@ -6,6 +6,6 @@ mod message;
 mod naming;
 mod packing;
 
-pub use message::{message_bytes, numbered_bytes};
+pub use message::{FEW_BYTES, message_bytes, numbered_bytes};
 pub use naming::{Mark, NamingOutbox};
 pub use packing::pack;

@@ -8,14 +8,11 @@ ghost use Rattle.zr_wirekey.specs.Writing.{writes_name};
 use std::alloc::{AllocError, Global};
 use zr_bytes::ByteString;
 use zr_msg::msg::Msg;
-use zr_wire::write_numbered;
+use zr_wire::{NO_NUMBER, write_numbered};
 use zr_wirekey::write_name;
 
 /// Room for most small messages, so that writing one takes memory once.
-const FEW_BYTES: usize = 128;
-
-// The key of a message is written as whole text.
-const NO_NUMBER: u16 = 0;
+pub const FEW_BYTES: usize = 128;
 
 /// The bytes of a message that may be written, with its whole key.
 pub fn message_bytes(alloc: Global, msg: &Msg) -> Result<ByteString, AllocError>

@@ -11,6 +11,7 @@ use Rattle.zr_key.specs.Expression.{Chunk}
 use Rattle.zr_key.specs.Key.{chunks, chunk_of, expression_of}
 use Rattle.zr_match.specs.Table.{Signs, place, next_row, table, chunk_signs, IsRow}
 use Rattle.zr_match.proofs.Rows.{reverse_next, drop_next, length_suc}
+use Rattle.zr_lists.proofs.Tests.{any_mapped}
 use Rattle.zr_index.specs.declared.node.Node.{Node}
 use Rattle.zr_index.specs.declared.node.Node.TheViews.{out-Node}
 use Rattle.zr_index.specs.declared.node.Node.TheFolds.{fold_out-Node}
@@ -132,13 +133,9 @@ none_found cmp above marks key row none =
 
 -- ---- a level
 
-any_map : {A B : Type 0} (t : B → Bool) (h : A → B) (xs : List A) → list_any t (map h xs) ≡ list_any (λ x. t (h x)) xs
-any_map t h [] = refl
-any_map t h (x ∷ xs) = ap (λ z. t (h x) || z) (any_map t h xs)
-
 module _ {V K : Type 0} (text : K → List ℕ) (t : List (List ℕ) × V → Bool) (plain : Bool) where
   one_below : (b : Bool) (c : List ℕ) (ps : Pairs V) → list_any t (cond b (behind c ps) []) ≡ (b && list_any (λ p. t (c ∷ p.0, p.1)) ps)
-  one_below true c ps = any_map t (λ (p : List (List ℕ) × V). (c ∷ p.0, p.1)) ps
+  one_below true c ps = any_mapped t (λ (p : List (List ℕ) × V). (c ∷ p.0, p.1)) ps
   one_below false c ps = refl
 
   any_below : (es : List (K × Node V)) → list_any t (below text plain (map (λ e. (e.0, pairs e.1)) es)) ≡ list_any (λ e. is_of plain (text e.0) && list_any (λ p. t (text e.0 ∷ p.0, p.1)) (pairs e.1)) es
@@ -154,7 +151,7 @@ finds_level {V = V} cmp above key n v =
     let x = out-Node V n in
     ap (list_any t) (fold_out-Node V (Pairs V) pairs_step n)
     ∙ list_any-append t (map (λ (w : V). ([], w)) x.values.items) (below (λ k. k.items) true (map (λ e. (e.0, pairs e.1)) x.plain.entries) ++ below (λ k. k.items) false (map (λ e. (e.0, pairs e.1)) x.wild.entries))
-    ∙ (λ i. (any_map t (λ (w : V). ([], w)) x.values.items ∙ any_and (is_met above key []) (λ w. is_eq (cmp w v)) x.values.items) i
+    ∙ (λ i. (any_mapped t (λ (w : V). ([], w)) x.values.items ∙ any_and (is_met above key []) (λ w. is_eq (cmp w v)) x.values.items) i
     || (list_any-append t (below (λ k. k.items) true (map (λ e. (e.0, pairs e.1)) x.plain.entries)) (below (λ k. k.items) false (map (λ e. (e.0, pairs e.1)) x.wild.entries))
     ∙ (λ j. any_below (λ k. k.items) t true x.plain.entries j || any_below (λ k. k.items) t false x.wild.entries j)) i)
 

@@ -81,13 +81,13 @@ ordered_leads true (Pieces p ∷ e) = LeadsTo-cons AnyChunks (LeadsTo-cons (Piec
 ordered_leads false (Pieces p ∷ e) = LeadsTo-cons (Pieces p) (ordered_leads false e)
 
 -- each chunk of an expression is one
-pub some_chunks : (e : List Chunk) → is_expression e ≡ true → list_all is_chunk e ≡ true
-some_chunks [] h = cc
-some_chunks (x ∷ e) h = h
+pub all_chunks : (e : List Chunk) → is_expression e ≡ true → list_all is_chunk e ≡ true
+all_chunks [] h = cc
+all_chunks (x ∷ e) h = h
 
 -- replacements lead to the canonical form
 pub canonical-leads : (e : List Chunk) → is_expression e ≡ true → LeadsTo e (canonical e)
-canonical-leads e h = LeadsTo-trans (map_settled_leads e (some_chunks e h)) (ordered_leads false (map settled e))
+canonical-leads e h = LeadsTo-trans (map_settled_leads e (all_chunks e h)) (ordered_leads false (map settled e))
 
 -- the canonical form is canonical
 begins_any-single : (p : List Piece) → begins_any (single true p) ≡ false
@@ -209,4 +209,4 @@ expression_from [] s h = s
 expression_from (x ∷ e) s h = h
 
 pub LeadsTo-is_expression : {e f : List Chunk} → LeadsTo e f → is_expression e ≡ true → is_expression f ≡ true
-LeadsTo-is_expression {e} {f} leads h = expression_from f (LeadsTo-some leads (some_expression e h)) (LeadsTo-all leads (some_chunks e h))
+LeadsTo-is_expression {e} {f} leads h = expression_from f (LeadsTo-some leads (some_expression e h)) (LeadsTo-all leads (all_chunks e h))

@@ -8,7 +8,7 @@ use Rattle.zr_key.specs.declared.key.KeyError.TheVariants.{TooLong, NotUtf8}
 use Rattle.zr_key.specs.Expression.{Chunk, spelled, is_expression, is_canonical, Spells, ReadsAs, LeadsTo, Matches}
 use Rattle.zr_key.specs.Key.{chunks, expression_of, canonical, first_fault, unless_faulty, read_key, IsKeyText}
 use Rattle.zr_key.proofs.Spelling.{IsSpelling, IsSpelling-from_fault, IsRead-from_expression}
-use Rattle.zr_key.proofs.CanonForm.{some_chunks, canonical-leads, is_canonical-canonical, LeadsTo-is_expression}
+use Rattle.zr_key.proofs.CanonForm.{all_chunks, canonical-leads, is_canonical-canonical, LeadsTo-is_expression}
 use Rattle.zr_key.proofs.SameKeys.{LeadsTo-forth, LeadsTo-back}
 use Rattle.zr_key.proofs.Settled.{canonical_kept}
 use Rattle.zr_key.proofs.Text.{LeadsTo-utf8, LeadsTo-length}
@@ -104,5 +104,5 @@ read_again [] h = cc
 read_again (b ∷ bs) h =
     let read = IsRead-from_expression (expression_of (b ∷ bs)) h.expression in
     let fault_free : first_fault (chunks (b ∷ bs)) ≡ None = ap (λ x. first_fault (chunks x)) (sym h.spells) ∙ read.fault_free in
-    let kept : canonical (expression_of (b ∷ bs)) ≡ expression_of (b ∷ bs) = canonical_kept (expression_of (b ∷ bs)) (some_chunks (expression_of (b ∷ bs)) h.expression) h.canonical_form in
+    let kept : canonical (expression_of (b ∷ bs)) ≡ expression_of (b ∷ bs) = canonical_kept (expression_of (b ∷ bs)) (all_chunks (expression_of (b ∷ bs)) h.expression) h.canonical_form in
     read-from_Passed b bs (record { short = h.short; utf8 = h.utf8; fault_free = fault_free }) ∙ ap (λ x. Ok x) (ap spelled kept ∙ h.spells)

@@ -78,7 +78,7 @@ pieces_of-is_piece (b ∷ bs) bad slash =
     by false false d s x y ih = and_from (is_plain b) (list_all is_piece (pieces_of bs)) (plain_from b y s d x) ih
 
 -- they have a `$*` where the text has a `$`
-is_wild-pieces_of : (bs : List ℕ) → is_wild (pieces_of bs) ≡ list_any (λ b. b == 36) bs
+pub is_wild-pieces_of : (bs : List ℕ) → is_wild (pieces_of bs) ≡ list_any (λ b. b == 36) bs
 is_wild-pieces_of [] = refl
 is_wild-pieces_of (b ∷ bs) = by (b == 36) (b == 42) (is_wild-pieces_of bs)
   where

@@ -31,7 +31,7 @@ use Rattle.zr_node_spec.specs.Tables.{link_to}
 use Rattle.zr_world_spec.specs.World.{Tagged, ClientState, RouterState, EndState, Routers, WorldState, with_ends, with_clients, new_client, new_end, router_of, client_of, with_router, is_taken, end_of, with_end, put_end, most_routers, most_clients, most_links, most_weight, most_queries, weight_of, is_in_place, links_in_place, with_wire, lifted, lowered, changed, is_settled}
 use Rattle.zr_world_spec.specs.Joined.{is_joined}
 use Rattle.zr_world_spec.specs.Acts.{Outcome, unless, router_at, client_at, end_at, oldest, has_number, has_id, weighing, weighed, refuses_of, heard, heard_by, hears, peer_of, up_event, number_at, number_to, client_sends, router_step, client_step, link_step, up_step, break_step, down_step, declare_step, undeclare_step, keeps_interest, interest_step, uninterest_step, publish_step, get_step, reply_step, end_step, handle_step, take_step, mark_step, show_step, outcome}
-use Rattle.zr_world_spec.proofs.Cases.{w_sent, router_found, end_found, oldest_found}
+use Rattle.zr_world_spec.proofs.Cases.{w_sent, router_found, end_found, oldest_found, client_found}
 use Rattle.zr_world_spec.proofs.Sound.{up_may_come, client_may_come, down_may_come}
 use Rattle.zr_law_calls.specs.Reached.{IsReached}
 use Rattle.zr_law_calls.specs.Limits.{has_no_room, asks_most, OnlyLimitsAreMet}
@@ -46,11 +46,6 @@ no_router (Some r) h = cc
 no_client : (o : Option ClientState) → client_at o ≡ Err Limit → ⊥
 no_client None h = cc
 no_client (Some s) h = cc
-
--- a client that was read
-client_there : (o : Option ClientState) (s : ClientState) → client_at o ≡ Ok s → o ≡ Some s
-client_there None s h = absurd (false≢true (ap is_ok h))
-client_there (Some t) s h = cc
 
 no_end : (o : Option EndState) → end_at o ≡ Err Limit → ⊥
 no_end None h = cc
@@ -190,7 +185,7 @@ module _ (w : WorldState) (n : ℕ) (h : IsReached w n) (P : Type 0) where
   unfolding declare_step
   at_declare line name kind id key msg met =
       at_read (client_at (client_of w.clients name)) _ (no_client _) (λ s is. at_unless (has_id s kind id) NameTaken _ (λ k. cc) (λ fresh. at_sends line name s msg _ (λ e.
-      at_weighed name key s _ (client_there (client_of w.clients name) s is) met (λ rs. at_end _ refl))))
+      at_weighed name key s _ (client_found (client_of w.clients name) s is) met (λ rs. at_end _ refl))))
 
   at_undeclare : (line : ℕ) (name : List ℕ) (kind : Kind) (id : ℕ) (msg : Msg) → undeclare_step w line name kind id msg ≡ Err Limit → P
   unfolding undeclare_step
@@ -202,7 +197,7 @@ module _ (w : WorldState) (n : ℕ) (h : IsReached w n) (P : Type 0) where
   unfolding interest_step
   at_interest line name id mode kinds key aggregate met =
       at_read (client_at (client_of w.clients name)) _ (no_client _) (λ s is. at_unless (has_number s.interests id) NameTaken _ (λ k. cc) (λ fresh. at_sends line name s msg (goes s) (λ e.
-      by (is_future mode) s e (client_there (client_of w.clients name) s is) met)))
+      by (is_future mode) s e (client_found (client_of w.clients name) s is) met)))
     where
       msg : Msg
       msg = m.Interest id (is_current mode) (is_future mode) kinds key aggregate
@@ -228,7 +223,7 @@ module _ (w : WorldState) (n : ℕ) (h : IsReached w n) (P : Type 0) where
   unfolding get_step
   at_get line name number target content met =
       at_read (client_at (client_of w.clients name)) _ (no_client _) (λ s is. at_unless (has_number s.queries number) NameTaken _ (λ k. cc) (λ free. at_sends line name s (m.Request None number target content) _ (λ e.
-      at_limit (nat_le most_queries (length s.queries)) _ (λ full. met (ap open_most (client_there (client_of w.clients name) s is) ∙ full)) (λ room. at_end _ refl))))
+      at_limit (nat_le most_queries (length s.queries)) _ (λ full. met (ap open_most (client_found (client_of w.clients name) s is) ∙ full)) (λ room. at_end _ refl))))
     where
       open_most : Option ClientState → Bool
       open_most o = option_map_or (λ s. nat_le most_queries (length s.queries)) o false

@@ -34,6 +34,7 @@ use Rattle.zr_law_settled.proofs.Worlds.{there_in, wire_at}
 use Rattle.zr_law_settled.proofs.Quiet.{passes_there}
 use Rattle.zr_law_settled.proofs.Rest.{passes, met}
 use Rattle.zr_law_settled.proofs.Agreeing.{logs_agree}
+use Rattle.zr_law_settled.proofs.WeightsRows.{has_row}
 use Rattle.zr_law_declared.specs.Declared.{stands, IsClientOf}
 use Rattle.zr_law_declared.specs.Rows.{IsLinkedClient, row_of, AreDeclared, SettledRowsAreDeclared}
 use Rattle.zr_law_declared.specs.Sets.{IsDeclaredAt, SettledSetsAreDeclared}
@@ -60,15 +61,6 @@ row_with (q ∷ rows) d h = by (is_decl q.decl d) refl h (row_with rows d)
     by : (t : Bool) → is_decl q.decl d ≡ t → (t || has (decls_of rows) d) ≡ true → (has (decls_of rows) d ≡ true → (p : Row) × In p rows × (p.decl ≡ d)) → (p : Row) × In p (q ∷ rows) × (p.decl ≡ d)
     by true e k ih = (q, inl refl, is_same decl_cmp decl_order q.decl d e)
     by false e k ih = let p = ih k in (p.0, inr p.1, p.2)
-
-has_row : (rows : List Row) (q : Row) → In q rows → has (decls_of rows) q.decl ≡ true
-has_row [] q i = absurd i
-has_row (p ∷ rows) q (inl e) = ap (λ b. b || has (decls_of rows) q.decl) (ap (λ (z : Row). is_decl p.decl z.decl) e ∙ is_itself decl_cmp decl_order p.decl)
-has_row (p ∷ rows) q (inr i) = by (is_decl p.decl q.decl) (has_row rows q i)
-  where
-    by : (t : Bool) → has (decls_of rows) q.decl ≡ true → (t || has (decls_of rows) q.decl) ≡ true
-    by true h = refl
-    by false h = h
 
 pub its_decl : (link : LinkNo) (id : ℕ) (o : Option Decl) → option_map (λ (q : Row). q.decl) (row_of link id o) ≡ o
 its_decl link id None = refl

@@ -17,6 +17,7 @@ use Rattle.zr_world_spec.specs.Next.{Done, all_done}
 use Rattle.zr_world_spec.specs.Moments.{Moment, went, is_step}
 use Rattle.zr_world_spec.specs.Sound.{IsSound}
 use Rattle.zr_world_spec.proofs.Sound.{act_keeps, said_first}
+use Rattle.zr_lists.proofs.Elements.{none_both, none_mapped}
 use Rattle.zr_law_fan.specs.Samples.{Move, Handling, Taking, can_go, at_end, under_way, sent_at, sends_by, next_moves, bare, emptied, IsSameBut, quieted, IsCalm, msg_of, HasMoved, AreSamples, HaveMoved, RunsMove}
 use Rattle.zr_world_spec.specs.Fan.{is_sample}
 use Rattle.zr_law_fan.proofs.Moving.{steps_move}
@@ -24,7 +25,7 @@ use Rattle.zr_law_fan.proofs.Pushing.{become_samples}
 
 -- ---- a world that is the same but for what waits
 
-keys_emptied : (es : Ends) → keys_of (emptied es) ≡ keys_of es
+pub keys_emptied : (es : Ends) → keys_of (emptied es) ≡ keys_of es
 keys_emptied [] = refl
 keys_emptied (e ∷ es) = ap (λ l. e.0 ∷ l) (keys_emptied es)
 
@@ -153,14 +154,6 @@ runs_move w sound calm samples line (act ∷ more) ok =
         }
 
 -- ---- nothing is under way
-
-pub none_both : {X : Type 0} (xs ys : List X) → xs ++ ys ≡ [] → (xs ≡ []) × (ys ≡ [])
-none_both [] ys h = (refl, h)
-none_both (x ∷ xs) ys h = let bad : ⊥ = cc in absurd bad
-
-pub none_mapped : {X Y : Type 0} (f : X → Y) (xs : List X) → map f xs ≡ [] → xs ≡ []
-none_mapped f [] h = refl
-none_mapped f (x ∷ xs) h = let bad : ⊥ = cc in absurd bad
 
 idle : (es : Ends) → under_way es ≡ [] → es ≡ emptied es
 idle [] h = refl

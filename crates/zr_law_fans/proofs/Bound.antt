@@ -8,7 +8,7 @@ use Rattle.std.proofs.lemmas.Bool.{false≢true, true≢false}
 use Rattle.std.proofs.lemmas.List.{length-map}
 use Rattle.zr_lists.proofs.Finds.{In, in_filter}
 use Rattle.zr_orders.specs.Bag.{weigh, Goes}
-use Rattle.zr_orders.proofs.Bag.{weigh-append}
+use Rattle.zr_orders.proofs.Bag.{weigh-append, weigh_le}
 use Rattle.zr_orders.proofs.Passes.{same_pass, append_pass}
 use Rattle.zr_id.specs.Zid.{is_named}
 use Rattle.zr_graph.specs.Record.{has}
@@ -35,7 +35,7 @@ use Rattle.zr_law_settled.proofs.ClientRows.{ClientsHold}
 use Rattle.zr_law_fan.specs.Samples.{Move, Handling, Taking, at_end, under_way, msg_of, next_moves}
 use Rattle.zr_law_fan.proofs.Moving.{sample_case}
 use Rattle.zr_law_fan.proofs.Pushing.{become_samples}
-use Rattle.zr_law_fans.proofs.Trees.{same_parent_here, is_under, weigh_le, weigh_both, parent_is_apart}
+use Rattle.zr_law_fans.proofs.Trees.{same_parent_here, is_under, weigh_both, parent_is_apart}
 use Rattle.zr_law_fans.proofs.Worth.{tree_at, tree_over, clients_at, clients_of, clients_but, clients_less, steps_at, under, worth_from, worth_handled, worth, SeesItsPart, worth_falls}
 use Rattle.zr_law_fans.proofs.Counting.{loose, loose_parts, loose_at, few_loose}
 

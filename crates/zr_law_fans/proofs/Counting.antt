@@ -10,6 +10,7 @@ use Rattle.std.specs.declared.cmp.Ordering.TheVariants.{Less}
 use Rattle.std.specs.Cmp.Lexicographic.{slice_cmp}
 use Rattle.std.proofs.lemmas.Bool.{false≢true, or_cases}
 use Rattle.zr_orders.specs.Bag.{weigh}
+use Rattle.zr_orders.proofs.Bag.{weigh_same}
 use Rattle.zr_id.specs.Zid.{is_named}
 use Rattle.zr_graph.specs.Record.{IsAscending}
 use Rattle.zr_world_spec.specs.World.{ClientState, End, Ends, Clients, WorldState, end_cmp, is_end, router_of, client_of, end_of, turned}
@@ -43,10 +44,6 @@ module _ {X : Type 0} (order : X → X → Ordering) (same : (a b : X) → is_eq
 weigh_all : {X : Type 0} (f g : X → ℕ) (xs : List X) → AllByRecursion (λ x. f x ≤ g x) xs → weigh f xs ≤ weigh g xs
 weigh_all f g [] all = omega arith
 weigh_all f g (x ∷ xs) all = let more = weigh_all f g xs all.1 in omega (arith, all.0, more)
-
-weigh_same : {X : Type 0} (f g : X → ℕ) → ((x : X) → f x ≡ g x) → (xs : List X) → weigh f xs ≡ weigh g xs
-weigh_same f g same [] = refl
-weigh_same f g same (x ∷ xs) = λ i. same x i + weigh_same f g same xs i
 
 -- ---- ends that lead to no router
 

@@ -6,6 +6,7 @@ use Rattle.std.specs.Option.{option_map_or}
 use Rattle.std.proofs.lemmas.Bool.{and_from}
 use Rattle.std.proofs.Math.Bool.{and-false}
 use Rattle.zr_lists.proofs.Finds.{In}
+use Rattle.zr_lists.proofs.Elements.{none_both, none_mapped}
 use Rattle.zr_orders.proofs.Passes.{append_pass}
 use Rattle.zr_script_spec.specs.declared.command.Act.{Act}
 use Rattle.zr_script_spec.specs.Step.{◌>>=◌}
@@ -19,7 +20,7 @@ use Rattle.zr_law_settled.proofs.Orderly.{Orderly}
 use Rattle.zr_law_settled.proofs.Goes.{Goes, goes_on}
 use Rattle.zr_law_settled.proofs.UpEnds.{IsMet, receiver_up, taker_up}
 use Rattle.zr_law_fan.specs.Samples.{Move, Handling, Taking, at_end, under_way, can_go, IsSameBut}
-use Rattle.zr_law_fan.proofs.Running.{flags_same, none_both, none_mapped}
+use Rattle.zr_law_fan.proofs.Running.{flags_same}
 use Rattle.zr_law_fan.proofs.Ending.{rests}
 
 -- ---- ends that are up

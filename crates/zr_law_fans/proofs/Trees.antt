@@ -17,6 +17,7 @@ use Rattle.zr_tree.proofs.Depths.{parent_near}
 use Rattle.zr_tree.proofs.SameEdges.{same_list}
 use Rattle.zr_tree.proofs.Branches.{parent_is, child_is, child_from, below_itself, below_parent, below_trans, below_nearer, below_one}
 use Rattle.zr_orders.specs.Bag.{weigh}
+use Rattle.zr_orders.proofs.Bag.{weigh_le}
 
 -- ---- two graphs
 
@@ -135,10 +136,6 @@ two_sums f (x ∷ xs) ys = omega (arith, two_sums f xs ys, both ys)
     both : (ys : List _) → weigh (λ y. weigh (λ z. f z y) (x ∷ xs)) ys ≡ weigh (f x) ys + weigh (λ y. weigh (λ z. f z y) xs) ys
     both [] = refl
     both (y ∷ ys) = omega (arith, both ys)
-
-pub weigh_le : {X : Type 0} (f g : X → ℕ) (le : (x : X) → f x ≤ g x) (xs : List X) → weigh f xs ≤ weigh g xs
-weigh_le f g le [] = omega arith
-weigh_le f g le (x ∷ xs) = omega (arith, le x, weigh_le f g le xs)
 
 pub weigh_both : {X : Type 0} (f g : X → ℕ) (xs : List X) → weigh (λ x. f x + g x) xs ≡ weigh f xs + weigh g xs
 weigh_both f g [] = refl

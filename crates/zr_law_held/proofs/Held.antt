@@ -13,10 +13,10 @@ use Rattle.zr_pend_spec.specs.declared.branch.Asker.{Asker}
 use Rattle.zr_pend_spec.specs.Row.{RowState}
 use Rattle.zr_pend_spec.specs.Pending.{IsSound, all_orphaned, branches_on, finals_of_drop}
 use Rattle.zr_pend_spec.specs.Held.{GatheringState, is_asker, is_for, gathers_for, held_for, ending, held_with, are_apart, reply_weight, gathering_weight, held_weight, gathering_begun, regathered, gatherings_with, gatherings_without, gatherings_off, gatherings_left, gatherings_differ}
-use Rattle.zr_pend_spec.proofs.Sums.{filter_sum}
 use Rattle.zr_pend_spec.proofs.Sound.{all_orphaned_sound}
 use Rattle.zr_pend_spec.proofs.Gathered.{same_asker, endings_else, weighs_if}
 use Rattle.zr_pend_spec.proofs.Askers.{finals_apart, dropped_endings}
+use Rattle.zr_lists.proofs.Sums.{filter_sum}
 
 abbrev Held : Type 0
 Held = List GatheringState

@@ -17,7 +17,7 @@ use Rattle.zr_key.specs.Key.{expression_of, canonical}
 use Rattle.zr_bytes.specs.Number.{writes_within, writes}
 use Rattle.zr_script_spec.specs.Lines.{parts, all_but_last, last_part, ended_lines, open_line, unless_empty}
 use Rattle.zr_script_spec.specs.Words.{words}
-use Rattle.zr_pend_spec.proofs.Sums.{filter_sum}
+use Rattle.zr_lists.proofs.Sums.{filter_sum}
 use Rattle.zr_law_held.specs.Lines.{LinesAreWithin}
 
 -- ---- parts

@@ -1,5 +1,5 @@
 -- What acts that no router hears of lead to on all links: a router comes, a link comes or breaks, a message is taken from a queue to a router.
-use Rattle.std.proofs.Common.{◌≡◌, ℕ, ◌⊎◌, inl, inr, Bool, true, false, cond, List, [], ◌∷◌, ◌++◌, Option, Some, None, is_some, refl, sym, ap, ◌∙◌}
+use Rattle.std.proofs.Common.{◌≡◌, ℕ, ◌⊎◌, inl, inr, Bool, true, false, cond, List, [], ◌++◌, Option, Some, None, is_some, refl, sym, ap, ◌∙◌}
 use Rattle.std.specs.Prelude.{◌||◌}
 use Rattle.std.specs.Option.{option_map, option_or}
 use Rattle.std.specs.Ordering.{nat_cmp}
@@ -10,10 +10,10 @@ use Rattle.zr_lists.proofs.Options.{not_there}
 use Rattle.zr_id.specs.Zid.{is_named}
 use Rattle.zr_graph.proofs.Names.{same_is}
 use Rattle.zr_node_spec.specs.Tables.{link_to}
-use Rattle.zr_world_spec.specs.World.{Tagged, RouterState, EndState, End, Ends, WorldState, with_routers, router_of, client_of, end_of, is_end, turned, is_up, is_unbroken, is_in_place, is_taken, is_empty, put_end, broken, new_end, new_router, changed}
+use Rattle.zr_world_spec.specs.World.{RouterState, EndState, End, Ends, WorldState, with_routers, router_of, client_of, end_of, is_end, turned, is_up, is_unbroken, is_in_place, is_taken, is_empty, put_end, broken, new_end, new_router, changed}
 use Rattle.zr_world_spec.specs.Sound.{IsSound}
 use Rattle.zr_world_spec.proofs.Names.{value_new}
-use Rattle.zr_world_spec.proofs.Ends.{same_end, read_put_end, read_changed}
+use Rattle.zr_world_spec.proofs.Ends.{same_end, read_put_end, read_changed, none_there}
 use Rattle.zr_world_spec.proofs.Cases.{w_link, w_break, free_name}
 use Rattle.zr_law_settled.proofs.Orderly.{Orderly, has_wire, has_queue, turned_end}
 use Rattle.zr_law_settled.proofs.Moving.{unbroken_at}
@@ -32,24 +32,19 @@ all_same w v unbroken wires queues keeps back x y whole = (
   link_same w v x y (λ i. wires (y, x) i ++ queues (x, y) i) (λ i. wires (x, y) i ++ queues (y, x) i) (keeps x y) (back x y),
 )
 
--- an emptied list
-emptied : (ts : List Tagged) → is_empty ts ≡ true → ts ≡ []
-emptied [] e = refl
-emptied (t ∷ ts) e = absurd (false≢true e)
-
 no_wire : (ends : Ends) (e : End) → has_wire (end_of ends e) ≡ false → wire_at ends e ≡ []
 no_wire ends e h = by (end_of ends e) h
   where
     by : (o : Option EndState) → has_wire o ≡ false → wire_of o ≡ []
     by None k = refl
-    by (Some s) k = emptied s.wire (not-false (is_empty s.wire) k)
+    by (Some s) k = none_there s.wire (not-false (is_empty s.wire) k)
 
 no_queue : (ends : Ends) (e : End) → has_queue (end_of ends e) ≡ false → queue_at ends e ≡ []
 no_queue ends e h = by (end_of ends e) h
   where
     by : (o : Option EndState) → has_queue o ≡ false → queue_of o ≡ []
     by None k = refl
-    by (Some s) k = emptied s.queue (not-false (is_empty s.queue) k)
+    by (Some s) k = none_there s.queue (not-false (is_empty s.queue) k)
 
 -- ---- a router comes
 

@@ -42,7 +42,7 @@ same_count w line act = by (outcome w line act) (outcome_recounted w w.booked li
         booked_of (Ok y) = y.1.booked
 
 -- a run has no more steps than it asks for
-few_steps : (line n : ℕ) (w : WorldState) → length (run_steps line n w) ≤ n
+pub few_steps : (line n : ℕ) (w : WorldState) → length (run_steps line n w) ≤ n
 unfolding run_steps
 few_steps line zero w = omega arith
 few_steps line (suc n) w = by (next w) (λ v. few_steps line n v)

@@ -52,7 +52,7 @@ over_kept test (k ∷ links) l up e = by (k.link.0 == l.link.0) refl (test k) re
     by false f false g h ih = ih h
 
 -- the tree that a request names on a link, if it goes along one
-abbrev named_on : Option (List ℕ) → Role → Option (List ℕ)
+abbrev pub named_on : Option (List ℕ) → Role → Option (List ℕ)
 named_on o role = option_and_then (λ tree. tree_for tree role) o
 
 along_is : (t : TableState) (pending : List RowState) (from : ℕ) (o : Option (List ℕ)) (target : Target) (content : Parts) (l : LinkPeer) → AreNumbered t.links → link_at t.links l.link.0 ≡ Some l →

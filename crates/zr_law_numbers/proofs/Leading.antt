@@ -160,7 +160,7 @@ deeds_append : (h : Half) (ds es : List Deed) → with_deeds h (ds ++ es) ≡ wi
 deeds_append h [] es = refl
 deeds_append h (d ∷ ds) es = deeds_append (with_deed h d) ds es
 
-may_append : (h : Half) (ds es : List Deed) → MayDoAll h (ds ++ es) → MayDoAll (with_deeds h ds) es
+pub may_append : (h : Half) (ds es : List Deed) → MayDoAll h (ds ++ es) → MayDoAll (with_deeds h ds) es
 may_append h [] es may = may
 may_append h (d ∷ ds) es may = may_append (with_deed h d) ds es may.1
 

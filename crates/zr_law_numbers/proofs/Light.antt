@@ -7,6 +7,7 @@ use Rattle.std.specs.Option.{option_map, option_map_or}
 use Rattle.std.proofs.lemmas.Bool.{false≢true, and_parts}
 use Rattle.std.proofs.lemmas.Grind.{flat_map-append}
 use Rattle.zr_lists.proofs.Tests.{all_parts}
+use Rattle.zr_lists.proofs.Elements.{none_both}
 use Rattle.zr_id.specs.Zid.{is_named}
 use Rattle.zr_id.specs.declared.link.LinkNo.{LinkNo}
 use Rattle.zr_msg.specs.declared.event.Event.TheVariants.{From}
@@ -83,10 +84,6 @@ few_light k n from (Snap source number decls) light h = h
 -- nothing of a request waits from any name to any other
 abbrev pub IsLight : WorldState → Type 0
 IsLight w = (x y : List ℕ) → flat_map deals (waits w x y) ≡ []
-
-none_both : {X : Type 0} (xs ys : List X) → xs ++ ys ≡ [] → (xs ≡ []) × (ys ≡ [])
-none_both [] ys h = (refl, h)
-none_both (x ∷ xs) ys h = let bad : ⊥ = cc in absurd bad
 
 both_none : {X : Type 0} (xs ys : List X) → xs ≡ [] → ys ≡ [] → xs ++ ys ≡ []
 both_none xs ys a b = λ i. a i ++ b i

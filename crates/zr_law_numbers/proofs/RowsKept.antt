@@ -8,12 +8,12 @@ use Rattle.zr_pend_spec.specs.declared.branch.Branch.{Branch}
 use Rattle.zr_pend_spec.specs.Row.{RowState, is_branch, has, is_asked_by}
 use Rattle.zr_pend_spec.specs.Pending.{asked, are_distinct, branches, finished, final_to, IsSound}
 use Rattle.zr_pend_spec.specs.Readings.{back, row_of, but_for, final_if_none}
-use Rattle.zr_pend_spec.proofs.Parts.{and_left, and_right, left_false}
 use Rattle.zr_pend_spec.proofs.Branches.{distinct_behind, distinct_apart}
 use Rattle.zr_pend_spec.proofs.Sound.{any_branch}
 use Rattle.zr_pend_spec.proofs.OneRow.{none_found}
 use Rattle.zr_pend_spec.proofs.Readings.{in_row, finished_is}
 use Rattle.zr_pend_spec.proofs.ReadingsOfDrop.{kept_is, is_who}
+use Rattle.zr_lists.proofs.Parts.{and_left, and_right, left_false}
 
 -- ---- askers
 

@@ -10,10 +10,10 @@ use Rattle.zr_pend_spec.specs.declared.branch.Branch.{Branch}
 use Rattle.zr_pend_spec.specs.Row.{RowState, is_branch, has, is_asked_by, is_done, is_of, without}
 use Rattle.zr_pend_spec.specs.Pending.{asked, is_pending, branch, branches, opened, begun, finished, all_finished, all_orphaned, branches_on, dropped}
 use Rattle.zr_pend_spec.specs.Readings.{back}
-use Rattle.zr_pend_spec.proofs.Parts.{and_left, left_false, right_false}
 use Rattle.zr_pend_spec.proofs.Sound.{any_branch, finished_branches, all_orphaned_branches}
 use Rattle.zr_pend_spec.proofs.Dropped.{gone}
 use Rattle.zr_lists.proofs.Each.{All-append, All-kept}
+use Rattle.zr_lists.proofs.Parts.{and_left, left_false, right_false}
 
 -- ---- the links of askers and of branches
 

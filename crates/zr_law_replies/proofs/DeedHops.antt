@@ -10,7 +10,7 @@ use Rattle.zr_law_queries.specs.Link.{Ask, Answer, ask, reply, final, Free, Aske
 use Rattle.zr_law_queries.proofs.Hops.{event_shows}
 use Rattle.zr_law_numbers.specs.Waiting.{Asked, Said, asks_in, answers_in}
 use Rattle.zr_law_numbers.specs.Deeds.{Half, Deed, Asks, Hears, Closes, Leaves, Takes, Replies, Ends, with_deed, with_deeds, MayDoAll, asked_by_deed, answered_by_deed, handles_msg, is_own}
-use Rattle.zr_law_numbers.proofs.Leading.{Wire, link_is, handled, answered, requested}
+use Rattle.zr_law_numbers.proofs.Leading.{Wire, link_is, handled, answered, requested, may_append}
 use Rattle.zr_law_numbers.proofs.DeedLists.{with-append}
 use Rattle.zr_law_numbers.proofs.Doing.{Above, Below}
 use Rattle.zr_law_replies.specs.Answers.{HopState}
@@ -61,10 +61,6 @@ each_shows l f hops number s n = subst (ShowsAt l n) (by (number == n) refl) (s 
     by : (b : Bool) → (number == n) ≡ b → cond b (f (hops number)) (hops n) ≡ cond b (f (hops n)) (hops n)
     by true e = ap (λ k. f (hops k)) (eqb-true number n e)
     by false e = refl
-
-may_behind : (h : Half) (ds es : List Deed) → MayDoAll h (ds ++ es) → MayDoAll (with_deeds h ds) es
-may_behind h [] es may = may
-may_behind h (d ∷ ds) es may = may_behind (with_deed h d) ds es may.1
 
 -- the upper end does what is its own
 above_own : (l : Wire) (h : Half) (ds : List Deed) → ((n : ℕ) → l.back n ≡ h.back n) → list_all is_own ds ≡ true → MayDoAll h ds → (hops : ℕ → HopState) → Shows l hops →
@@ -196,7 +192,7 @@ module _ (l : Wire) (h : Half) (own : List Deed) (owns : list_all is_own own ≡
       (subst (ShowsAt (record { asks = l.asks ++ flat_map asked_by_deed own; answers = rest; keeps = l.keeps; back = (with_deeds (with_deeds h (handles_msg t.msg)) own).back }) n)
       (sym (above_append n (handles_msg t.msg) own (hops n)))
       (above_own (record { asks = l.asks; answers = rest; keeps = l.keeps; back = (with_deeds h (handles_msg t.msg)).back }) (with_deeds h (handles_msg t.msg)) own (λ k. refl) owns
-      (may_behind h (handles_msg t.msg) own may) (λ k. above_hops k (handles_msg t.msg) (hops k)) (above_front l t.tag h hops s t.msg rest first same) n))
+      (may_append h (handles_msg t.msg) own may) (λ k. above_hops k (handles_msg t.msg) (hops k)) (above_front l t.tag h hops s t.msg rest first same) n))
 
   below_all : (o : Option Tagged) (rest : List (Ask Asked)) → l.asks ≡ requested o ++ rest → ((n : ℕ) → l.keeps n ≡ h.keeps n) → MayDoAll h (handled o ++ own) →
       Shows (record { asks = rest; answers = l.answers ++ flat_map answered_by_deed own; keeps = (with_deeds h (handled o ++ own)).keeps; back = l.back }) (λ n. below_hops n (handled o ++ own) (hops n))
@@ -209,7 +205,7 @@ module _ (l : Wire) (h : Half) (own : List Deed) (owns : list_all is_own own ≡
       (subst (ShowsAt (record { asks = rest; answers = l.answers ++ flat_map answered_by_deed own; keeps = (with_deeds (with_deeds h (handles_msg t.msg)) own).keeps; back = l.back }) n)
       (sym (below_append n (handles_msg t.msg) own (hops n)))
       (below_own (record { asks = rest; answers = l.answers; keeps = (with_deeds h (handles_msg t.msg)).keeps; back = l.back }) (with_deeds h (handles_msg t.msg)) own (λ k. refl) owns
-      (may_behind h (handles_msg t.msg) own may) (λ k. below_hops k (handles_msg t.msg) (hops k)) (below_front l t.tag h hops s t.msg rest first same) n))
+      (may_append h (handles_msg t.msg) own may) (λ k. below_hops k (handles_msg t.msg) (hops k)) (below_front l t.tag h hops s t.msg rest first same) n))
 
 module _ (fine : Deed → Type 0) (l m : Wire) (hops : ℕ → HopState) (s : Shows l hops) where
   pub upper_shows : (u : Above fine l m) → Shows m (λ n. above_hops n (handled u.came ++ u.own) (hops n))

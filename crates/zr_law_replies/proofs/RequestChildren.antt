@@ -28,13 +28,14 @@ use Rattle.zr_law_queries.specs.Query.{IsTree, is_child, is_empty, goes_nowhere}
 use Rattle.zr_law_samples.proofs.Routed.{AreReady}
 use Rattle.zr_law_samples.proofs.Start.{Marked, ready}
 use Rattle.zr_law_numbers.proofs.RowsBegun.{is_over}
+use Rattle.zr_law_numbers.proofs.DeedsOfRequests.{named_on}
 use Rattle.zr_law_replies.specs.Trees.{has_router, home_of, parent_of, named_at, neighbours_of, children_at, tree_at}
 use Rattle.zr_law_replies.specs.Stands.{lasting, IsStill, request_to}
 use Rattle.zr_law_replies.proofs.TreeLinks.{neighbours_are, neighbour_link, link_neighbour}
 use Rattle.zr_law_replies.proofs.Trees.{client_apart, differ, asks_home, is_tree}
 use Rattle.zr_law_replies.proofs.TreeWays.{comes}
 use Rattle.zr_law_replies.proofs.StandHere.{still_router}
-use Rattle.zr_law_replies.proofs.RequestGoes.{named_for, over_test}
+use Rattle.zr_law_replies.proofs.RequestGoes.{over_test}
 
 -- ---- links and neighbours
 
@@ -183,7 +184,7 @@ module _ (before : List Numbered) (mark : ℕ) (now : Moment) (marked : Marked b
 
       -- what is asked of a child
       pub asked_is : (line : ℕ) → line ≡ q.line → (y : List ℕ) (l : LinkPeer) → link_to r.node.links y ≡ Some l → is_child (tree_at now.world q) x y ≡ true →
-          record { line = line; tree = named_for goes_in l.peer.role; target = target; content = content } ≡ request_to now.world q y
+          record { line = line; tree = named_on goes_in l.peer.role; target = target; content = content } ≡ request_to now.world q y
       asked_is line line_is y l linked_y kid = λ i. record { line = line_is i; tree = names_it i; target = target_is i; content = content_is i }
         where
           below : is_named (home_of now.world q.client) y ≡ false
@@ -196,9 +197,9 @@ module _ (before : List Numbered) (mark : ℕ) (now : Moment) (marked : Marked b
                   ∙ ap (parent_of now.world q.client) (same_name (home_of now.world q.client) y f) ∙ is.parent x y kid) ∙ routes))
 
           by : (role : Role) → is_router role ≡ has_router now.world y →
-              named_for (Some (home_of now.world q.client)) role ≡ cond (has_router now.world y) (named_at now.world q.client y) None
+              named_on (Some (home_of now.world q.client)) role ≡ cond (has_router now.world y) (named_at now.world q.client y) None
           by Client f = ap (λ b. cond b (named_at now.world q.client y) None) f
           by Router f = ap (λ b. cond b None (Some (home_of now.world q.client))) (sym below) ∙ ap (λ b. cond b (named_at now.world q.client y) None) f
 
-          names_it : named_for goes_in l.peer.role ≡ cond (has_router now.world y) (named_at now.world q.client y) None
-          names_it = ap (λ o. named_for o l.peer.role) goes_in_is ∙ by l.peer.role (sound.roles x y r l found linked_y ∙ still_router now.world m still y)
+          names_it : named_on goes_in l.peer.role ≡ cond (has_router now.world y) (named_at now.world q.client y) None
+          names_it = ap (λ o. named_on o l.peer.role) goes_in_is ∙ by l.peer.role (sound.roles x y r l found linked_y ∙ still_router now.world m still y)

@@ -2,7 +2,7 @@
 use Rattle.std.proofs.Common.{◌≡◌, ℕ, ◌==◌, Bool, true, false, cond, not, List, [], ◌∷◌, ◌++◌, map, filter, Option, Some, None, refl, sym, ap, ◌∙◌}
 use Rattle.std.specs.Prelude.{◌||◌, ◌&&◌}
 use Rattle.std.specs.List.{flat_map}
-use Rattle.std.specs.Option.{option_map_or, option_and_then}
+use Rattle.std.specs.Option.{option_map_or}
 use Rattle.std.proofs.Math.Bool.{or-false}
 use Rattle.std.proofs.lemmas.Bool.{false≢true, true≢false, eqb-true, eq-eqb, false_from_ne_true}
 use Rattle.zr_id.specs.declared.link.LinkNo.{LinkNo}
@@ -14,7 +14,6 @@ use Rattle.zr_msg.specs.declared.msg.Msg.{Msg}
 use Rattle.zr_msg.specs.declared.msg.Msg.TheVariants.{Request, Final}
 use Rattle.zr_msg.specs.declared.msg.Target.{Target}
 use Rattle.zr_msg.specs.declared.peer.LinkPeer.{LinkPeer}
-use Rattle.zr_msg.specs.declared.peer.Role.{Role}
 use Rattle.zr_pend_spec.specs.declared.branch.Asker.{Asker}
 use Rattle.zr_pend_spec.specs.Row.{RowState}
 use Rattle.zr_pend_spec.specs.Pending.{asked, branch, free_number, begun}
@@ -30,6 +29,7 @@ use Rattle.zr_world_spec.specs.World.{RouterState}
 use Rattle.zr_law_numbers.specs.Waiting as waiting
 use Rattle.zr_law_numbers.specs.Waiting.{asks_in, answers_in}
 use Rattle.zr_law_numbers.proofs.RowsBegun.{is_over, begun_back_on}
+use Rattle.zr_law_numbers.proofs.DeedsOfRequests.{named_on}
 use Rattle.zr_world_spec.specs.Sound.{AreUnique}
 
 -- ---- where a request goes
@@ -67,18 +67,14 @@ over_test links unique test l e = by (test l) refl
         (map_in (λ (k : LinkPeer). k.link) (filter test links) l (filter_in test links l (find_in (λ k. is_link l.link.0 k) links l e).0 t)) (eq-eqb l.link.0 l.link.0 refl)
     by false t = false_from_ne_true (is_over l.link (map (λ k. k.link) (filter test links))) (λ h. true≢false (sym (passes h) ∙ t))
 
--- the tree that a request names on a link, if it goes along one
-abbrev pub named_for : Option (List ℕ) → Role → Option (List ℕ)
-named_for o role = option_and_then (λ tree. tree_for tree role) o
-
 -- what a router asks over a link of a request that came over another
 abbrev pub asked_on : RouterState → LinkPeer → ℕ → Option (List ℕ) → Target → Parts → LinkPeer → waiting.Asked
-asked_on r k tag tree target content l = record { line = tag; tree = named_for (tree_on r k tree) l.peer.role; target = target; content = content }
+asked_on r k tag tree target content l = record { line = tag; tree = named_on (tree_on r k tree) l.peer.role; target = target; content = content }
 
 -- what is sent of it over a link
 pub along_over : (t : TableState) → AreUnique t.links → (pending : List RowState) (from : ℕ) (o : Option (List ℕ)) (target : Target) (content : Parts) (l : LinkPeer) → link_at t.links l.link.0 ≡ Some l →
     request_along t pending from o target content l.link.0
-    ≡ cond (is_over l.link (links_along t from o target content.key)) (Request (named_for o l.peer.role) (free_number l.link pending) target content ∷ []) []
+    ≡ cond (is_over l.link (links_along t from o target content.key)) (Request (named_on o l.peer.role) (free_number l.link pending) target content ∷ []) []
 along_over t unique pending from None target content l e = refl
 along_over t unique pending from (Some tree) target content l e =
     ap (λ z. option_map_or (λ k. cond (is_asked t from tree target content.key k k.peer.role) (Request (tree_for tree k.peer.role) (free_number k.link pending) target content ∷ []) []) z []) e

@@ -39,7 +39,8 @@ use Rattle.zr_law_numbers.proofs.DeedLists.{swapped}
 use Rattle.zr_law_numbers.proofs.DeedsDone.{asks_are, answers_are}
 use Rattle.zr_law_numbers.proofs.RowsBegun.{free_back, is_over}
 use Rattle.zr_law_numbers.proofs.SentOfQueries.{IsOfQueries, first_tells}
-use Rattle.zr_law_replies.proofs.RequestGoes.{tree_on, links_on, goes_to, named_for, asked_on, along_over, final_asks, final_answers, kept_over, back_over}
+use Rattle.zr_law_numbers.proofs.DeedsOfRequests.{named_on}
+use Rattle.zr_law_replies.proofs.RequestGoes.{tree_on, links_on, goes_to, asked_on, along_over, final_asks, final_answers, kept_over, back_over}
 use Rattle.zr_law_replies.proofs.HandleLinks.{from_apart, others_link, asks_to, answers_to, asks_from, asks_stay, answers_behind, keeps_now, keeps_was, back_now, back_was, keeps_there, back_there}
 
 -- ---- links
@@ -106,7 +107,7 @@ module _ (w : WorldState) (sound : IsSound w) (orderly : Orderly w) (x : List �
 
     module _ (l : LinkPeer) (e : link_to r.node.links y ≡ Some l) where
       abbrev requested : List Msg
-      requested = cond (is_over l.link goes_over) (Request (named_for goes_in l.peer.role) (free_number l.link r.node.pending) target content ∷ []) []
+      requested = cond (is_over l.link goes_over) (Request (named_on goes_in l.peer.role) (free_number l.link r.node.pending) target content ∷ []) []
 
       sent_some : {X : Type 0} (tells : Msg → List X) → IsOfQueries tells → flat_map tells (sends_to r.node event y) ≡ flat_map tells (final_at_once k.link.0 id goes_over l.link.0 ++ requested)
       sent_some tells none =
@@ -117,7 +118,7 @@ module _ (w : WorldState) (sound : IsSound w) (orderly : Orderly w) (x : List �
       asks_some : flat_map (λ m. asks_in tag m) (sends_to r.node event y) ≡ cond (is_over l.link goes_over) (ask (free_number l.link r.node.pending) (passed_to l) ∷ []) []
       asks_some = sent_some (λ m. asks_in tag m) (asks_are tag) ∙ final_asks tag k.link.0 id l.link.0 goes_over requested ∙ by (is_over l.link goes_over)
         where
-          by : (b : Bool) → flat_map (λ m. asks_in tag m) (cond b (Request (named_for goes_in l.peer.role) (free_number l.link r.node.pending) target content ∷ []) [])
+          by : (b : Bool) → flat_map (λ m. asks_in tag m) (cond b (Request (named_on goes_in l.peer.role) (free_number l.link r.node.pending) target content ∷ []) [])
               ≡ cond b (ask (free_number l.link r.node.pending) (passed_to l) ∷ []) []
           by true = refl
           by false = refl
@@ -129,7 +130,7 @@ module _ (w : WorldState) (sound : IsSound w) (orderly : Orderly w) (x : List �
           ∙ append-nil (flat_map (λ m. answers_in tag m) (final_at_once k.link.0 id goes_over l.link.0)) ∙ final_answers tag k.link.0 id l.link.0 goes_over
           ∙ ap (λ b. cond (is_empty goes_over && b) (final id ∷ []) []) (swapped k.link.0 l.link.0 (k.link.0 == l.link.0) refl ∙ same_number y l e)
         where
-          by : (b : Bool) → flat_map (λ m. answers_in tag m) (cond b (Request (named_for goes_in l.peer.role) (free_number l.link r.node.pending) target content ∷ []) []) ≡ []
+          by : (b : Bool) → flat_map (λ m. answers_in tag m) (cond b (Request (named_on goes_in l.peer.role) (free_number l.link r.node.pending) target content ∷ []) []) ≡ []
           by true = refl
           by false = refl
 

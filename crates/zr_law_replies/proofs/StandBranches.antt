@@ -3,7 +3,7 @@ use Rattle.std.proofs.Common.{◌≡◌, ℕ, ◌==◌, ◌&&◌, ◌||◌, Bool
 use Rattle.std.specs.Prelude.{not, map, is_some}
 use Rattle.std.specs.List.{cons_option, list_any, filter_map, find}
 use Rattle.std.specs.Option.{option_map, option_map_or, option_and_then}
-use Rattle.std.proofs.lemmas.Bool.{false≢true, true≢false, eqb-true, eq-eqb, and_from}
+use Rattle.std.proofs.lemmas.Bool.{false≢true, eqb-true, eq-eqb, and_from}
 use Rattle.zr_id.specs.Zid.{is_named}
 use Rattle.zr_id.specs.declared.link.LinkNo.{LinkNo}
 use Rattle.zr_lists.proofs.Finds.{find_in}
@@ -14,7 +14,7 @@ use Rattle.zr_pend_spec.specs.Row.{RowState, is_asked_by}
 use Rattle.zr_pend_spec.specs.Held.{is_for}
 use Rattle.zr_pend_spec.specs.Pending.{asked, branch, askers_differ, free_number, opened, begun, finished}
 use Rattle.zr_pend_spec.specs.Readings.{back, row_of, new_row}
-use Rattle.zr_pend_spec.proofs.Readings.{in_row, finished_row, begun_row}
+use Rattle.zr_pend_spec.proofs.Readings.{in_row, finished_row, begun_row, no_row}
 use Rattle.zr_node_spec.specs.Tables.{is_link, link_at, link_to}
 use Rattle.zr_world_spec.specs.World.{RouterState}
 use Rattle.zr_world_spec.specs.Sound.{AreUnique}
@@ -33,16 +33,6 @@ without_none b (c ∷ bs) h = by (is_place b c) h (without_none b bs)
     by : (t : Bool) → (t || list_any (λ c. is_place b c) bs) ≡ false → (list_any (λ c. is_place b c) bs ≡ false → without b bs ≡ bs) → cond (not t) (c ∷ without b bs) (without b bs) ≡ c ∷ bs
     by true k ih = absurd (false≢true (sym k))
     by false k ih = ap (λ z. c ∷ z) (ih k)
-
--- who has asked nothing has no row
-unasked_row : (a : Asker) (rows : List RowState) → asked a rows ≡ false → row_of a rows ≡ []
-unasked_row a [] e = refl
-unasked_row a (r ∷ rows) e = by (is_asked_by a r) e (unasked_row a rows)
-  where
-    by : (b : Bool) → (b || asked a rows) ≡ false → (asked a rows ≡ false → row_of a rows ≡ []) →
-        option_map_or (λ (z : RowState). z.branches) (cond b (Some r) (find (λ z. is_asked_by a z) rows)) [] ≡ []
-    by true k ih = absurd (true≢false k)
-    by false k ih = ih k
 
 -- a router with the same links and rows has the same by name
 pub row_same : (r r' : RouterState) → r'.node.links ≡ r.node.links → r'.node.pending ≡ r.node.pending → (from : Place) → row_places r' from ≡ row_places r from
@@ -176,7 +166,7 @@ module _ (r : RouterState) (unique : AreUnique r.node.links) where
           at : (b : Bool) → asked (record { link = j.link; number = from.number }) r.node.pending ≡ b →
               cond b (row_of (record { link = j.link; number = from.number }) r.node.pending) [] ≡ row_of (record { link = j.link; number = from.number }) r.node.pending
           at true k = refl
-          at false k = sym (unasked_row (record { link = j.link; number = from.number }) r.node.pending k)
+          at false k = sym (no_row (record { link = j.link; number = from.number }) r.node.pending k)
 
       by : (o : Option LinkPeer) → link_to r.node.links from.name ≡ o →
           option_map_or (λ j. filter_map (λ b. branch_place r b) (row_of (record { link = j.link; number = from.number }) (begun r.node.pending asker to))) o []

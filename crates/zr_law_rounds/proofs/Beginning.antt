@@ -4,7 +4,7 @@ use Rattle.std.specs.Prelude.{◌&&◌, ◌||◌, is_some}
 use Rattle.std.specs.List.{AllByRecursion, flat_map, list_all, list_any}
 use Rattle.std.specs.Map.{keys_of, lookup}
 use Rattle.std.specs.Option.{option_map_or}
-use Rattle.std.proofs.lemmas.Bool.{and_from, and_parts, false≢true}
+use Rattle.std.proofs.lemmas.Bool.{and_from, and_parts}
 use Rattle.std.proofs.lemmas.Cmp.{nat_list_cmp_total}
 use Rattle.zr_lists.proofs.Elements.{in_each}
 use Rattle.zr_orders.specs.Bag.{weigh, AreSame, Goes}
@@ -17,7 +17,7 @@ use Rattle.zr_world_spec.specs.World.{Tagged, EndState, End, Ends, Routers, Worl
 use Rattle.zr_world_spec.specs.Acts.{hub_of}
 use Rattle.zr_world_spec.specs.Fan.{are_samples, is_sample, waiting_at}
 use Rattle.zr_world_spec.specs.Sound.{IsSound}
-use Rattle.zr_world_spec.proofs.Ends.{end_found}
+use Rattle.zr_world_spec.proofs.Ends.{end_found, none_there}
 use Rattle.zr_world_spec.proofs.Keyed.{entry_found, there as some_there}
 use Rattle.zr_world_spec.proofs.Names.{same_name}
 use Rattle.zr_law_fan.specs.Samples.{Move, Handling, Taking, at_end, under_way, next_moves, can_go, msg_of, AreSamples}
@@ -31,7 +31,7 @@ use Rattle.zr_law_rounds.proofs.Shares.{all_go_on}
 
 -- ---- the routers of shares
 
-stay_both : (ss ts us : List ShareState) → Stay ss ts → Stay ts us → Stay ss us
+pub stay_both : (ss ts us : List ShareState) → Stay ss ts → Stay ts us → Stay ss us
 stay_both ss ts us a b = (b.0 ∙ a.0, b.1 ∙ a.1)
 
 of_stay : (w : WorldState) (ss ts : List ShareState) → Stay ss ts → AllByRecursion (λ s. IsOf w s) ss → AllByRecursion (λ s. IsOf w s) ts
@@ -271,12 +271,7 @@ up_goes w e s rest ss ts there up whole same gone begun = record {
         let eight = become w e s there up whole (is_some (router_of w.routers e.1)) (sym same) f s.queue in
         omega (arith, one, two, three, four, five, six, seven, eight)
 
--- where nothing waits nothing begins
-empty_is : (ms : List Tagged) → is_empty ms ≡ true → ms ≡ []
-empty_is [] h = refl
-empty_is (m ∷ ms) h = absurd (false≢true h)
-
-none_went : (b : Bool) (e : End) → went b e [] ≡ []
+pub none_went : (b : Bool) (e : End) → went b e [] ≡ []
 none_went true e = refl
 none_went false e = refl
 
@@ -323,7 +318,7 @@ end_goes w new ss ts e s rest h begun = record { may = h.may; stay = stay_both n
     by : (b : Bool) → is_idle s ≡ b → HaveGone w ts rest
     by true idle =
         let parts = and_parts (is_empty s.wire) (is_empty s.queue) idle in
-        idle_goes w (is_some (router_of w.routers e.1)) e s rest ss ts (empty_is s.wire parts.0) (empty_is s.queue parts.1) h.gone come
+        idle_goes w (is_some (router_of w.routers e.1)) e s rest ss ts (none_there s.wire parts.0) (none_there s.queue parts.1) h.gone come
     by false waiting =
         let up = begun.up waiting in
         let met_is = open_end w h.may.sound h.may.settled e s h.found.0 up in

@@ -3,7 +3,7 @@ use Rattle.std.proofs.Common.{◌≡◌, ℕ, ◌+◌, ◌≤◌, Bool, true, fa
 use Rattle.std.specs.Prelude.{is_some}
 use Rattle.std.specs.List.{concat, count_by, flat_map, sum_by}
 use Rattle.zr_orders.specs.Bag.{weigh, AreSame, Goes}
-use Rattle.zr_orders.proofs.Bag.{weigh-append}
+use Rattle.zr_orders.proofs.Bag.{weigh-append, weigh_same}
 use Rattle.zr_orders.proofs.Passes.{weigh-map, weigh-one}
 use Rattle.zr_orders.proofs.Ranked.{texts_same, weigh_sum}
 use Rattle.zr_script_spec.specs.declared.report.ReportLine.{ReportLine}
@@ -32,10 +32,6 @@ same_either : {X : Type 0} (b : Bool) (x : X) → cond b x x ≡ x
 same_either true x = refl
 same_either false x = refl
 
-weigh_each : {X : Type 0} (f g : X → ℕ) → ((x : X) → f x ≡ g x) → (xs : List X) → weigh f xs ≡ weigh g xs
-weigh_each f g same [] = refl
-weigh_each f g same (x ∷ xs) = let one = same x in let rest = weigh_each f g same xs in omega (arith, one, rest)
-
 weigh_lines : (f : List ℕ → ℕ) (ss : List ShareState) → weigh f (flat_map lines_in ss) ≡ told_by (alike f) ss
 weigh_lines f [] = refl
 weigh_lines f (s ∷ ss) =
@@ -53,7 +49,7 @@ line_alike w f (Taking e m) = same_either (is_some (router_of w.routers e.1)) (f
 lines_are : (w : WorldState) (ss : List ShareState) (moved : List Move) → ((f : Weights) → told_by f ss ≡ weigh (line_weight w f) moved) →
     AreSame (map line_text (map line_of moved)) (flat_map lines_in ss)
 lines_are w ss moved told f =
-    weigh-map f line_text (map line_of moved) ∙ weigh-map (λ l. f (line_text l)) line_of moved ∙ sym (weigh_each (line_weight w (alike f)) (λ m. f (line_text (line_of m))) (line_alike w f) moved)
+    weigh-map f line_text (map line_of moved) ∙ weigh-map (λ l. f (line_text l)) line_of moved ∙ sym (weigh_same (line_weight w (alike f)) (λ m. f (line_text (line_of m))) (line_alike w f) moved)
     ∙ sym (told (alike f)) ∙ sym (weigh_lines f ss)
 
 -- ---- how many there are
@@ -63,19 +59,19 @@ weigh_none [] = refl
 weigh_none (x ∷ xs) = let rest = weigh_none xs in omega (arith, rest)
 
 told_handled : (ss : List ShareState) → told_by (counts 1 0 0) ss ≡ sum_by (λ s. length s.handled) ss
-told_handled ss = weigh_each (told_in (counts 1 0 0)) (λ s. length s.handled) one ss ∙ weigh_sum (λ s. length s.handled) ss
+told_handled ss = weigh_same (told_in (counts 1 0 0)) (λ s. length s.handled) one ss ∙ weigh_sum (λ s. length s.handled) ss
   where
     one : (s : ShareState) → told_in (counts 1 0 0) s ≡ length s.handled
     one s = let a = weigh-one s.handled in let b = weigh_none s.taken in let c = weigh_none s.sent in omega (arith, a, b, c)
 
 told_taken : (ss : List ShareState) → told_by (counts 0 1 0) ss ≡ sum_by (λ s. length s.taken) ss
-told_taken ss = weigh_each (told_in (counts 0 1 0)) (λ s. length s.taken) one ss ∙ weigh_sum (λ s. length s.taken) ss
+told_taken ss = weigh_same (told_in (counts 0 1 0)) (λ s. length s.taken) one ss ∙ weigh_sum (λ s. length s.taken) ss
   where
     one : (s : ShareState) → told_in (counts 0 1 0) s ≡ length s.taken
     one s = let a = weigh_none s.handled in let b = weigh-one s.taken in let c = weigh_none s.sent in omega (arith, a, b, c)
 
 told_sent : (ss : List ShareState) → told_by (counts 0 0 1) ss ≡ sum_by (λ s. length s.sent) ss
-told_sent ss = weigh_each (told_in (counts 0 0 1)) (λ s. length s.sent) one ss ∙ weigh_sum (λ s. length s.sent) ss
+told_sent ss = weigh_same (told_in (counts 0 0 1)) (λ s. length s.sent) one ss ∙ weigh_sum (λ s. length s.sent) ss
   where
     one : (s : ShareState) → told_in (counts 0 0 1) s ≡ length s.sent
     one s = let a = weigh_none s.handled in let b = weigh_none s.taken in let c = weigh-one s.sent in omega (arith, a, b, c)
@@ -86,7 +82,7 @@ count_moves p moved = sym (weigh_sum (λ l. cond (p l) 1 0) (map line_of moved))
 
 module _ (w : WorldState) (ss : List ShareState) (moved : List Move) (told : (f : Weights) → told_by f ss ≡ weigh (line_weight w f) moved) where
   handled_are : count_by is_handled (map line_of moved) ≡ sum_by (λ s. length s.handled) ss
-  handled_are = count_moves is_handled moved ∙ weigh_each (λ m. cond (is_handled (line_of m)) 1 0) (line_weight w (counts 1 0 0)) one moved ∙ sym (told (counts 1 0 0)) ∙ told_handled ss
+  handled_are = count_moves is_handled moved ∙ weigh_same (λ m. cond (is_handled (line_of m)) 1 0) (line_weight w (counts 1 0 0)) one moved ∙ sym (told (counts 1 0 0)) ∙ told_handled ss
     where
       one : (m : Move) → cond (is_handled (line_of m)) 1 0 ≡ line_weight w (counts 1 0 0) m
       one (Handling e m) = refl
@@ -95,7 +91,7 @@ module _ (w : WorldState) (ss : List ShareState) (moved : List Move) (told : (f 
   taken_are : count_by (is_taken_to (λ to. is_some (router_of w.routers to))) (map line_of moved) ≡ sum_by (λ s. length s.taken) ss
   taken_are =
       count_moves (is_taken_to (λ to. is_some (router_of w.routers to))) moved
-      ∙ weigh_each (λ m. cond (is_taken_to (λ to. is_some (router_of w.routers to)) (line_of m)) 1 0) (line_weight w (counts 0 1 0)) one moved ∙ sym (told (counts 0 1 0)) ∙ told_taken ss
+      ∙ weigh_same (λ m. cond (is_taken_to (λ to. is_some (router_of w.routers to)) (line_of m)) 1 0) (line_weight w (counts 0 1 0)) one moved ∙ sym (told (counts 0 1 0)) ∙ told_taken ss
     where
       one : (m : Move) → cond (is_taken_to (λ to. is_some (router_of w.routers to)) (line_of m)) 1 0 ≡ line_weight w (counts 0 1 0) m
       one (Handling e m) = refl
@@ -104,7 +100,7 @@ module _ (w : WorldState) (ss : List ShareState) (moved : List Move) (told : (f 
   sent_are : count_by (is_taken_to (λ to. not (is_some (router_of w.routers to)))) (map line_of moved) ≡ sum_by (λ s. length s.sent) ss
   sent_are =
       count_moves (is_taken_to (λ to. not (is_some (router_of w.routers to)))) moved
-      ∙ weigh_each (λ m. cond (is_taken_to (λ to. not (is_some (router_of w.routers to))) (line_of m)) 1 0) (line_weight w (counts 0 0 1)) one moved ∙ sym (told (counts 0 0 1)) ∙ told_sent ss
+      ∙ weigh_same (λ m. cond (is_taken_to (λ to. not (is_some (router_of w.routers to))) (line_of m)) 1 0) (line_weight w (counts 0 0 1)) one moved ∙ sym (told (counts 0 0 1)) ∙ told_sent ss
     where
       other : (b : Bool) → ◌≡◌ {A = ℕ} (cond (not b) 1 0) (cond b 0 1)
       other true = refl
@@ -118,7 +114,7 @@ module _ (w : WorldState) (ss : List ShareState) (moved : List Move) (told : (f 
   length_is =
       let all = sym (weigh-one (map line_of moved)) ∙ weigh-map (λ l. 1) line_of moved in
       let whole = told (alike (λ t. 1)) in
-      let same = weigh_each (λ m. 1) (line_weight w (alike (λ t. 1))) (λ m. sym (line_alike w (λ t. 1) m)) moved in
+      let same = weigh_same (λ m. 1) (line_weight w (alike (λ t. 1))) (λ m. sym (line_alike w (λ t. 1) m)) moved in
       let parts = told_parts ss in
       let one = told_handled ss in
       let two = told_taken ss in

@@ -60,7 +60,7 @@ pub record ClientsHold (w : WorldState) : Type 0 where
   pub rows : (x : Name) (r : RouterState) → router_of w.routers x ≡ Some r → AllByRecursion (λ q. leads_to_client r.node.links q.link.0 ≡ true) r.node.rows
 
 -- an end that leads to a router is not one that leads to a client
-not_to : (w : WorldState) → ClientsHold w → (a b x c : Name) (s : ClientState) → there_in w b ≡ true → client_of w.clients c ≡ Some s → is_end (a, b) (x, c) ≡ false
+pub not_to : (w : WorldState) → ClientsHold w → (a b x c : Name) (s : ClientState) → there_in w b ≡ true → client_of w.clients c ≡ Some s → is_end (a, b) (x, c) ≡ false
 not_to w h a b x c s router client = false_from_ne_true (is_end (a, b) (x, c)) (λ e.
     true≢false (sym router ∙ ap (λ (q : End). there_in w q.1) (same_end (a, b) (x, c) e) ∙ h.apart c s client))
 

@@ -7,12 +7,12 @@ use Rattle.std.proofs.lemmas.List.Sums.{sum_by-cons}
 use Rattle.zr_id.specs.declared.link.LinkNo.{LinkNo}
 use Rattle.zr_lists.specs.Ascending.{at_key, has_key, without}
 use Rattle.zr_lists.proofs.Order.{nat_order}
+use Rattle.zr_lists.proofs.Sums.{filter_sum}
 use Rattle.zr_local.specs.Clients.{client_link, interests_on, with_interests, noted, clients_left, client_weight, clients_weight, weight_but}
 use Rattle.zr_local.specs.Interests.{interest_id, interest_weight, interests_weight}
 use Rattle.zr_local.specs.declared.interest.ClientInterests.{ClientInterests}
 use Rattle.zr_local.specs.declared.interest.Interest.{Interest}
 use Rattle.zr_local.proofs.Live.{put_weighs, kept_weighs}
-use Rattle.zr_pend_spec.proofs.Sums.{filter_sum}
 use Rattle.zr_law_settled.proofs.Weights.{live_weight}
 
 -- a client leaves

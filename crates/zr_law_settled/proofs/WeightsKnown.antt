@@ -26,11 +26,11 @@ use Rattle.zr_log.specs.declared.error.KnownError.{KnownError}
 use Rattle.zr_log.specs.declared.error.KnownError.TheVariants.{Gap, TextLimit}
 use Rattle.zr_log.proofs.Changes.{set_changed}
 use Rattle.zr_log.proofs.Logs.{source_of}
-use Rattle.zr_pend_spec.proofs.Sums.{filter_sum}
 use Rattle.zr_node_spec.specs.Changes.{after_changes}
 use Rattle.zr_lists.proofs.Each.{All-each, All-filter}
 use Rattle.zr_lists.proofs.Elements.{each_in}
 use Rattle.zr_lists.proofs.Order.{name_order}
+use Rattle.zr_lists.proofs.Sums.{filter_sum}
 use Rattle.zr_law_settled.proofs.Spreading.{Name}
 use Rattle.zr_law_settled.proofs.Positions.{position_with}
 use Rattle.zr_law_settled.proofs.WeightsSums.{AreOf, part_weighs, rest_weighs}

@@ -21,10 +21,10 @@ use Rattle.zr_local.specs.Rows.{row_key, key_cmp, declared, decls_of, declared_s
 use Rattle.zr_local.specs.declared.row.Row.{Row}
 use Rattle.zr_local.proofs.Rows.{key_order, weigh_rows}
 use Rattle.zr_log.specs.Log.{Change}
-use Rattle.zr_pend_spec.proofs.Sums.{filter_sum, put_sum, put_sum_le}
 use Rattle.zr_node_spec.specs.Changes.{changes}
 use Rattle.zr_lists.proofs.Each.{All-append, All-filter}
 use Rattle.zr_lists.proofs.Finds.{In, in_any, map_in, filter_in}
+use Rattle.zr_lists.proofs.Sums.{filter_sum, put_sum, put_sum_le}
 use Rattle.zr_law_settled.proofs.WeightsSums.{AreOf, set_sum}
 
 -- ---- counts
@@ -44,7 +44,7 @@ some_of q rows =
     omega (arith, length-filter q (declared_set rows), set_sum (λ d. cond (q d) 1 0) (decls_of rows), each)
 
 -- rows have their declarations
-has_row : (rows : List Row) (y : Row) → In y rows → has (decls_of rows) y.decl ≡ true
+pub has_row : (rows : List Row) (y : Row) → In y rows → has (decls_of rows) y.decl ≡ true
 has_row rows y i = in_any (λ e. is_decl e y.decl) (decls_of rows) y.decl (map_in (λ (r : Row). r.decl) rows y i) (is_itself decl_cmp decl_order y.decl)
 
 -- rows whose declarations were there bring none

@@ -10,9 +10,9 @@ use Rattle.zr_msg.specs.Decl.{decl_cmp}
 use Rattle.zr_msg.specs.declared.decl.Decl.{Decl}
 use Rattle.zr_log_set.specs.Decls.{is_decl, IsSet, has, with_decl, without_decl, set_of, decl_weight, weight}
 use Rattle.zr_lists.proofs.Order.{is_same, apart_back}
-use Rattle.zr_pend_spec.proofs.Sums.{filter_sum, put_sum_le}
 use Rattle.zr_log_set.proofs.Decls.{decl_order, has_less, set_without}
 use Rattle.zr_lists.proofs.Each.{All-kept}
+use Rattle.zr_lists.proofs.Sums.{filter_sum, put_sum_le}
 
 -- ---- sets
 

@@ -43,13 +43,13 @@ use Rattle.zr_told_spec.specs.Told.{ToldMap, Heard, at, heard as leave}
 use Rattle.zr_told_spec.specs.Wanted.{fits, told_as, asked, wants, is_complete_at, want}
 use Rattle.zr_told_spec.specs.declared.entry.Entry.{Entry}
 use Rattle.zr_told_spec.specs.declared.place.Place.{Place}
-use Rattle.zr_world_spec.specs.World.{Tagged, RouterState, ClientState, EndState, End, Ends, WorldState, router_of, client_of, end_of, is_up, is_unbroken, is_empty, is_idle, is_quiet, is_settled}
+use Rattle.zr_world_spec.specs.World.{RouterState, ClientState, EndState, End, Ends, WorldState, router_of, client_of, end_of, is_up, is_unbroken, is_empty, is_idle, is_quiet, is_settled}
 use Rattle.zr_world_spec.specs.Joined.{graph, is_joined}
 use Rattle.zr_world_spec.specs.Moments.{Numbered, Moment}
 use Rattle.zr_world_spec.specs.Moments as moments
 use Rattle.zr_world_spec.proofs.Keyed.{there}
 use Rattle.zr_world_spec.proofs.Names.{names}
-use Rattle.zr_world_spec.proofs.Ends.{end_passes}
+use Rattle.zr_world_spec.proofs.Ends.{end_passes, none_there}
 use Rattle.zr_world_spec.proofs.Lines.{at_some, prefix_reached}
 use Rattle.zr_guarantee.specs.Broker.{is_attached}
 use Rattle.zr_guarantee.specs.Names.{clients}
@@ -97,10 +97,6 @@ right w m t a h = record {
 
 -- ---- nothing is under way
 
-no_message : (ws : List Tagged) → is_empty ws ≡ true → ws ≡ []
-no_message [] h = refl
-no_message (x ∷ ws) h = absurd (false≢true h)
-
 all_values : (es : Ends) → list_all is_idle (values_of es) ≡ true → list_all (λ (e : End × EndState). is_idle e.1) es ≡ true
 all_values [] h = refl
 all_values (e ∷ es) h = let parts = and_parts (is_idle e.1) (list_all is_idle (values_of es)) h in and_from (is_idle e.1) (list_all (λ (e : End × EndState). is_idle e.1) es) parts.0 (all_values es parts.1)
@@ -112,7 +108,7 @@ nothing_waits w quiet q = by (end_of w.ends q) refl
     by None e = (refl, refl)
     by (Some s) e =
         let parts = and_parts (is_empty s.wire) (is_empty s.queue) (end_passes (λ e. is_idle e.1) w.ends q s (all_values w.ends quiet) e) in
-        (no_message s.wire parts.0, no_message s.queue parts.1)
+        (none_there s.wire parts.0, none_there s.queue parts.1)
 
 -- ---- sets
 

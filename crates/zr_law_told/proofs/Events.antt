@@ -17,21 +17,14 @@ use Rattle.zr_node_spec.specs.State.{new_link}
 use Rattle.zr_node_spec.specs.Table.{after}
 use Rattle.zr_node_spec.proofs.FreeLink.{free_is_free}
 use Rattle.zr_node_spec.proofs.LinksStay.{links_from}
-use Rattle.zr_world_spec.specs.World.{RouterState, EndState, ClientState, End, WorldState, router_of, client_of, end_of, is_end, is_unbroken, is_up, is_taken}
+use Rattle.zr_world_spec.specs.World.{RouterState, EndState, ClientState, WorldState, router_of, client_of, end_of, is_unbroken, is_up, is_taken}
 use Rattle.zr_world_spec.specs.Acts.{up_event}
 use Rattle.zr_world_spec.specs.Sound.{AreUnique, IsSound}
-use Rattle.zr_world_spec.proofs.Ends.{same_end}
 use Rattle.zr_world_spec.proofs.Links.{link_to_with, link_to_apart, unique_with, unique_without, named_link, numbered_link}
 use Rattle.zr_law_settled.proofs.Spreading.{Name}
-use Rattle.zr_law_settled.proofs.Worlds.{there_in}
 use Rattle.zr_law_settled.proofs.Quiet.{no_end, passes_there}
 use Rattle.zr_law_settled.proofs.Moving.{up_at, unbroken_at}
 use Rattle.zr_law_settled.proofs.ClientRows.{ClientsHold}
-
--- an end that leads to a router is none that leads to a client
-pub to_router : (w : WorldState) → ClientsHold w → (x y z c : Name) (s : ClientState) → there_in w y ≡ true → client_of w.clients c ≡ Some s → is_end (x, y) (z, c) ≡ false
-to_router w h x y z c s router client = false_from_ne_true (is_end (x, y) (z, c)) (λ e.
-    true≢false (sym router ∙ ap (λ (q : End). there_in w q.1) (same_end (x, y) (z, c) e) ∙ h.apart c s client))
 
 module _ (w : WorldState) (sound : IsSound w) (h : ClientsHold w) (a : Name) (r : RouterState) (found : router_of w.routers a ≡ Some r) where
   -- a link to a client is one by its number

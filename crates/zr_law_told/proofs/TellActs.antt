@@ -52,9 +52,9 @@ use Rattle.zr_law_settled.proofs.Spreading.{Name}
 use Rattle.zr_law_settled.proofs.Worlds.{there_in, queue_at}
 use Rattle.zr_law_settled.proofs.Moving.{unbroken_at}
 use Rattle.zr_law_settled.proofs.Ends.{other_end}
-use Rattle.zr_law_settled.proofs.ClientRows.{ClientsHold}
+use Rattle.zr_law_settled.proofs.ClientRows.{ClientsHold, not_to}
 use Rattle.zr_law_told.proofs.Readings.{told_of, msgs_in, waits, told_by, SameHomes, same_homes, home_was, same_taken, either_router, router_new, none_before}
-use Rattle.zr_law_told.proofs.Events.{to_router, its_end, no_link_down, no_link_new, not_down, up_links, up_unique, down_links, down_unique, from_unique}
+use Rattle.zr_law_told.proofs.Events.{its_end, no_link_down, no_link_new, not_down, up_links, up_unique, down_links, down_unique, from_unique}
 use Rattle.zr_law_told.proofs.Told.{Informs, AreTold, new_informs, event_agrees, still, told_then, waits_then, router_informs, routers_then, hears_agrees, heard_told}
 
 -- ---- reports
@@ -140,9 +140,9 @@ module _ (now : Moment) (sound : IsSound now.world) (h : ClientsHold now.world) 
       same : {Y : Type 0} (f : Option EndState → Y) (x c : Name) (s : ClientState) → client_of w.clients c ≡ Some s → f (end_of es (x, c)) ≡ f (end_of w.ends (x, c))
       same f x c s client =
           read_put_end (put_end w.ends (one, other) (new_end weight)) (other, one) (new_end weight) f (x, c)
-          ∙ ap (λ b. cond b (f (Some (new_end weight))) (f (end_of (put_end w.ends (one, other) (new_end weight)) (x, c)))) (to_router w h other one x c s here client)
+          ∙ ap (λ b. cond b (f (Some (new_end weight))) (f (end_of (put_end w.ends (one, other) (new_end weight)) (x, c)))) (not_to w h other one x c s here client)
           ∙ read_put_end w.ends (one, other) (new_end weight) f (x, c)
-          ∙ ap (λ b. cond b (f (Some (new_end weight))) (f (end_of w.ends (x, c)))) (to_router w h one other x c s there client)
+          ∙ ap (λ b. cond b (f (Some (new_end weight))) (f (end_of w.ends (x, c)))) (not_to w h one other x c s there client)
 
   -- what is queued at a link that breaks stays there
   breaks : (router name : Name) → AreTold (with_ends w (changed (changed w.ends (router, name) broken) (name, router) broken)) now.report
@@ -372,7 +372,7 @@ module _ (now : Moment) (sound : IsSound now.world) (h : ClientsHold now.world) 
         f (end_of taken_world.ends (x, c)) ≡ cond (is_end (router, to) (x, c)) (f (Some (with_queue s xs))) (f (end_of w.ends (x, c)))
     taken_end f x c q client =
         read_changed es (to, router) (λ e. sent e msg tag) f (x, c)
-        ∙ ap (λ b. cond b (f (option_map (λ e. sent e msg tag) (end_of es (x, c)))) (f (end_of es (x, c)))) (to_router w h to router x c q here client)
+        ∙ ap (λ b. cond b (f (option_map (λ e. sent e msg tag) (end_of es (x, c)))) (f (end_of es (x, c)))) (not_to w h to router x c q here client)
         ∙ read_with_end w.ends (router, to) (with_queue s xs) f (x, c) (ap is_some at_end)
       where
         es : Ends

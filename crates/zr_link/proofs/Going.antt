@@ -25,6 +25,7 @@ use Rattle.zr_session.specs.declared.phase.Phase.{Phase}
 use Rattle.zr_session.specs.declared.phase.Phase.TheVariants.{Opening, Established}
 use Rattle.zr_session.specs.Course.{Course}
 use Rattle.zr_session.specs.Session.{SessionState, IsAt, is_running}
+use Rattle.zr_session.proofs.Calls.{comes_at}
 use Rattle.zr_wire.specs.Writing.{IsSpelled}
 use Rattle.zr_link.specs.declared.end.LinkEnd.{LinkEnd}
 use Rattle.zr_link.specs.declared.end.LinkEnd.TheVariants as end
@@ -34,7 +35,7 @@ use Rattle.zr_link.specs.Gone.{IsGone, is_gone}
 use Rattle.zr_link.specs.Heard.{AreMessages, messages, Between, Hears, HearsSome, FateIs, LostIs, Closes, IsOpen, IsIn}
 use Rattle.zr_link.specs.Run.{Delivers, Stops, Refuses, UpEnds, EndIs, Follows}
 use Rattle.zr_link.proofs.Stream.{are_bytes_then}
-use Rattle.zr_link.proofs.Hearing.{Leads, leads_self, leads_then, heard_still, hears_then, hears_some_then, runs_at, comes_at}
+use Rattle.zr_link.proofs.Hearing.{Leads, leads_self, leads_then, heard_still, hears_then, hears_some_then, runs_at}
 
 -- ---- acts
 

@@ -1,7 +1,8 @@
 -- Elements of lists that are put together, and what is so of each of them.
 use Rattle.std.proofs.Common.{◌≡◌, Bool, true, List, [], ◌∷◌, ◌++◌, ◌⊎◌, inl, inr, refl, sym, ap, ◌∙◌, subst}
 use Rattle.std.specs.List.{AllByRecursion, flat_map, list_all}
-use Rattle.std.proofs.lemmas.Bool.{and_parts}
+use Rattle.std.proofs.lemmas.Bool.{and_parts, false≢true}
+use Rattle.std.specs.Prelude.{map}
 use Rattle.zr_lists.proofs.Finds.{In}
 
 module _ {X : Type 0} where
@@ -55,3 +56,13 @@ module _ {X Y : Type 0} where
   flat_in f [] x y i k = absurd i
   flat_in f (z ∷ xs) x y (inl e) k = in_front (f z) (flat_map f xs) y (subst (λ v. In y (f v)) e k)
   flat_in f (z ∷ xs) x y (inr i) k = in_behind (f z) (flat_map f xs) y (flat_in f xs x y i k)
+
+-- ---- no elements
+
+pub none_both : {X : Type 0} (xs ys : List X) → xs ++ ys ≡ [] → (xs ≡ []) × (ys ≡ [])
+none_both [] ys h = (refl, h)
+none_both (x ∷ xs) ys h = let bad : ⊥ = cc in absurd bad
+
+pub none_mapped : {X Y : Type 0} (f : X → Y) (xs : List X) → map f xs ≡ [] → xs ≡ []
+none_mapped f [] h = refl
+none_mapped f (x ∷ xs) h = let bad : ⊥ = cc in absurd bad

@@ -1,5 +1,5 @@
 -- What a filter keeps, and what is found in what it keeps.
-use Rattle.std.proofs.Common.{◌≡◌, ◌≤◌, suc, List, [], ◌∷◌, Bool, true, false, cond, ◌||◌, ◌&&◌, Some, None, length, refl, ap, arith}
+use Rattle.std.proofs.Common.{◌≡◌, ◌≤◌, suc, List, [], ◌∷◌, Bool, true, false, cond, ◌||◌, ◌&&◌, Some, None, length, refl, ap, arith, sym, ◌∙◌}
 use Rattle.std.specs.List.{AllByRecursion, filter, find, list_any}
 use Rattle.std.proofs.lemmas.Bool.{true≢false, false≢true}
 
@@ -54,3 +54,15 @@ module _ {X : Type 0} where
       by : (t : Bool) → list_any p (filter q xs) ≡ list_any (λ y. q y && p y) xs → list_any p (cond t (x ∷ filter q xs) (filter q xs)) ≡ ((t && p x) || list_any (λ y. q y && p y) xs)
       by true ih = ap (λ z. p x || z) ih
       by false ih = ih
+
+-- what a test finds is found among those that a filter keeps, if it is kept
+pub find_filter_there : {X : Type 0} (p q : X → Bool) (xs : List X) (x : X) → find p xs ≡ Some x → q x ≡ true → find p (filter q xs) ≡ Some x
+find_filter_there p q [] x h k = h
+find_filter_there p q (y ∷ xs) x h k = by (p y) (q y) refl refl h (λ g. find_filter_there p q xs x g k)
+  where
+    by : (a b : Bool) → p y ≡ a → q y ≡ b → cond a (Some y) (find p xs) ≡ Some x → (find p xs ≡ Some x → find p (filter q xs) ≡ Some x)
+        → find p (cond b (y ∷ filter q xs) (filter q xs)) ≡ Some x
+    by true true e f h ih = rw e h
+    by true false e f h ih = let same : y ≡ x = cc in absurd (true≢false (sym k ∙ ap q (sym same) ∙ f))
+    by false true e f h ih = rw e (ih h)
+    by false false e f h ih = ih h

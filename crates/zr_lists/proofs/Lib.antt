@@ -6,10 +6,12 @@ pub mod Finds
 pub mod Numbers
 pub mod Options
 pub mod Order
+pub mod Parts
 pub mod Places
 pub mod Prefixes
 pub mod Puts
 pub mod Same
 pub mod Sorted
+pub mod Sums
 pub mod Tests
 pub mod Truths

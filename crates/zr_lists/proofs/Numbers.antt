@@ -1,7 +1,7 @@
 -- Tests of numbers, and searches among them.
-use Rattle.std.proofs.Common.{◌≡◌, ◌≢◌, ℕ, ◌+◌, ◌-◌, ◌*◌, ◌<◌, ◌≤◌, ◌==◌, ◌⊎◌, zero, suc, Bool, true, false, cond, List, [], ◌∷◌, Some, None, is_some, Less, eq-eqb, inl, inr, refl, ap, ◌∙◌, arith}
+use Rattle.std.proofs.Common.{◌≡◌, ◌≢◌, ℕ, ◌+◌, ◌-◌, ◌*◌, ◌<◌, ◌≤◌, ◌==◌, ◌⊎◌, zero, suc, Bool, true, false, cond, List, [], ◌∷◌, Some, None, is_some, Less, eq-eqb, inl, inr, refl, ap, ◌∙◌, arith, nat_lt, Equal, Greater}
 use Rattle.std.specs.List.{find, fold, range_with_len}
-use Rattle.std.specs.Ordering.{is_eq, nat_cmp}
+use Rattle.std.specs.Ordering.{is_eq, nat_cmp, is_lt}
 use Rattle.std.proofs.lemmas.Bool.{true≢false, cases_eq}
 
 pub same_number : (n : ℕ) → (n == n) ≡ true
@@ -38,3 +38,11 @@ range_fails p a (suc n) h q le lt = by (p a) refl h (range_fails p (a + 1) n)
         at : (q ≡ a) ⊎ (q ≢ a) → p q ≡ false
         at (inl same) = ap p same ∙ e
         at (inr other) = ih none q (omega arith) (omega arith)
+
+pub nat_lt_is : (a b : ℕ) → is_lt (nat_cmp a b) ≡ nat_lt a b
+nat_lt_is a b = by (nat_lt a b) (a == b)
+  where
+    by : (s t : Bool) → is_lt (cond s Less (cond t Equal Greater)) ≡ s
+    by true t = refl
+    by false true = refl
+    by false false = refl

@@ -5,19 +5,9 @@ use Rattle.std.specs.Cmp.Lexicographic.{pointwise}
 use Rattle.std.proofs.lemmas.Bool.{and_parts, or_parts, not-true}
 use Rattle.zr_key.specs.Expression.{Char, AnyChars, Pieces, is_wild, begins_verbatim}
 use Rattle.zr_key.specs.Key.{pieces_of, is_plain_text}
+use Rattle.zr_key.proofs.Spelling.{is_wild-pieces_of}
 use Rattle.zr_match.specs.Table.{pieces_compare, chunks_go_together}
 use Rattle.zr_match.proofs.PieceTable.{compare_chars}
-
--- a chunk has a `$*` where it has a `$`
-dollar_is : (bs : List ℕ) → is_wild (pieces_of bs) ≡ list_any (λ b. b == 36) bs
-dollar_is [] = refl
-dollar_is (b ∷ bs) = by (b == 36) (b == 42) (dollar_is bs)
-  where
-    by : (t u : Bool) → is_wild (pieces_of bs) ≡ list_any (λ c. c == 36) bs
-        → is_wild (cond t (AnyChars ∷ pieces_of bs) (cond u (pieces_of bs) (Char b ∷ pieces_of bs))) ≡ (t || list_any (λ c. c == 36) bs)
-    by true u ih = refl
-    by false true ih = ih
-    by false false ih = ih
 
 -- a chunk with neither `*` nor `$` is its characters
 pub plain_chars : (bs : List ℕ) → list_any (λ b. b == 42 || b == 36) bs ≡ false → (pieces_of bs ≡ map (λ c. Char c) bs) × (is_wild (pieces_of bs) ≡ false)
@@ -48,8 +38,8 @@ pub apart_case : (expands : Bool) (x y : List ℕ)
     → (list_any (λ b. b == 36) x && begins_verbatim (pieces_of y) || list_any (λ b. b == 36) y && begins_verbatim (pieces_of x)) ≡ true
     → false ≡ chunks_go_together expands (Pieces (pieces_of x)) (Pieces (pieces_of y))
 apart_case expands x y h =
-    let wild : is_wild (pieces_of x) ≡ list_any (λ b. b == 36) x = dollar_is x in
-    let wilder : is_wild (pieces_of y) ≡ list_any (λ b. b == 36) y = dollar_is y in
+    let wild : is_wild (pieces_of x) ≡ list_any (λ b. b == 36) x = is_wild-pieces_of x in
+    let wilder : is_wild (pieces_of y) ≡ list_any (λ b. b == 36) y = is_wild-pieces_of y in
     rw (wild, wilder) (by (list_any (λ b. b == 36) x && begins_verbatim (pieces_of y)) (list_any (λ b. b == 36) y && begins_verbatim (pieces_of x)) (pieces_compare expands (pieces_of x) (pieces_of y)) h)
   where
     by : (u v w : Bool) → (u || v) ≡ true → false ≡ (not u && not v && w)
@@ -61,8 +51,8 @@ pub open_case : (expands : Bool) (x y : List ℕ)
     → (list_any (λ b. b == 36) x && begins_verbatim (pieces_of y) || list_any (λ b. b == 36) y && begins_verbatim (pieces_of x)) ≡ false
     → pieces_compare expands (pieces_of x) (pieces_of y) ≡ chunks_go_together expands (Pieces (pieces_of x)) (Pieces (pieces_of y))
 open_case expands x y h =
-    let wild : is_wild (pieces_of x) ≡ list_any (λ b. b == 36) x = dollar_is x in
-    let wilder : is_wild (pieces_of y) ≡ list_any (λ b. b == 36) y = dollar_is y in
+    let wild : is_wild (pieces_of x) ≡ list_any (λ b. b == 36) x = is_wild-pieces_of x in
+    let wilder : is_wild (pieces_of y) ≡ list_any (λ b. b == 36) y = is_wild-pieces_of y in
     rw (wild, wilder) (by (list_any (λ b. b == 36) x && begins_verbatim (pieces_of y)) (list_any (λ b. b == 36) y && begins_verbatim (pieces_of x)) (pieces_compare expands (pieces_of x) (pieces_of y)) h)
   where
     by : (u v w : Bool) → (u || v) ≡ false → w ≡ (not u && not v && w)

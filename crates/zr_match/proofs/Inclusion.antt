@@ -8,8 +8,8 @@ use Rattle.zr_match.specs.Match.{Takes, TakesChunk, Covers, is_verbatim_chunk}
 use Rattle.zr_match.specs.Table.{is_any_chunks, chunk_signs}
 use Rattle.zr_match.specs.Laws.{IsFresh, piece_passes, chunk_passes}
 use Rattle.zr_key.proofs.SameKeys.{Matches-parted}
+use Rattle.zr_key.proofs.CanonForm.{all_chunks}
 use Rattle.zr_match.proofs.Globs.{one_nil, one_cons}
-use Rattle.zr_match.proofs.Right.{all_chunks}
 use Rattle.zr_match.proofs.ChunkTable.{filled, piece_filled, filled_fits, filled_key, filled_verbatim, matches_law, chunk_one_in, takes_together}
 
 -- a text is cut where the pieces that it fits are cut

@@ -1,9 +1,9 @@
 -- The tests of texts say what meeting and covering mean.
 use Rattle.std.proofs.Common.{◌≡◌, ℕ, ◌∷◌, [], List, true, false}
-use Rattle.std.specs.List.{list_all}
 use Rattle.std.proofs.lemmas.Bool.{false≢true}
-use Rattle.zr_key.specs.Expression.{Chunk, is_chunk, is_expression}
+use Rattle.zr_key.specs.Expression.{Chunk, is_expression}
 use Rattle.zr_key.specs.Key.{expression_of, IsKeyText}
+use Rattle.zr_key.proofs.CanonForm.{all_chunks}
 use Rattle.zr_match.specs.Match.{Meets, Covers}
 use Rattle.zr_match.specs.Table.{compare_chunks}
 use Rattle.zr_match.proofs.ChunkTable.{compare_meets, meets_compare, compare_covers, covers_compare}
@@ -11,10 +11,6 @@ use Rattle.zr_match.proofs.ChunkTable.{compare_meets, meets_compare, compare_cov
 pub some_chunks : (e : List Chunk) → is_expression e ≡ true → (e ≡ []) → ⊥
 some_chunks [] h g = false≢true h
 some_chunks (x ∷ e) h g = cc
-
-pub all_chunks : (e : List Chunk) → is_expression e ≡ true → list_all is_chunk e ≡ true
-all_chunks [] h = cc
-all_chunks (x ∷ e) h = h
 
 pub meets_right : (a b : List ℕ) → IsKeyText a → IsKeyText b
     → (compare_chunks true (expression_of a) (expression_of b) ≡ true → Meets (expression_of a) (expression_of b)) × (Meets (expression_of a) (expression_of b) → compare_chunks true (expression_of a) (expression_of b) ≡ true)

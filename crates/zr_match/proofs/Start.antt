@@ -11,13 +11,13 @@ use Rattle.zr_key.specs.Expression.{Piece, Char, Chunk, Any, AnyChunks, Pieces, 
 use Rattle.zr_key.specs.Key.{pieces_of, chunk_of, expression_of, is_plain_text, plain_prefix_len}
 use Rattle.zr_key.proofs.Plain.{plain_before, plain_prefix_fits}
 use Rattle.zr_key.proofs.Spelling.{same_bytes}
+use Rattle.zr_key.proofs.CanonForm.{all_chunks}
 use Rattle.zr_match.specs.Table.{compare_chunks, chunks_go_together, is_any_chunks}
 use Rattle.zr_match.proofs.ChunkTable.{filled, filled_fits, filled_verbatim, compare_common, compare_covers, front}
 use Rattle.zr_match.proofs.GoTogether.{plain_case, plain_chars}
 use Rattle.zr_match.proofs.Inclusion.{covered_matches}
 use Rattle.zr_match.proofs.PieceTable.{bytes_same}
 use Rattle.zr_match.proofs.Plain.{bare_chunk}
-use Rattle.zr_match.proofs.Right.{all_chunks}
 
 -- a byte of a wildcard
 abbrev pub is_star : ℕ → Bool

@@ -12,13 +12,13 @@ use Rattle.std.proofs.lemmas.Str.{encode_ascii, is_utf8-from_IsUtf8}
 use Rattle.zr_key.specs.Expression.{Piece, Char, AnyChars, Chunk, Any, AnyChunks, Pieces, piece_text, chunk_text, spelled, is_plain, is_piece, is_wild, is_any_chars, begins_any, begins_verbatim, is_verbatim, is_key_chunk, is_key, is_chunk, is_expression, is_single, is_canonical_chunk, is_ordered, Fits, MatchesChunk, Matches}
 use Rattle.zr_key.specs.Key.{expression_of, IsKeyText}
 use Rattle.zr_key.proofs.Text.{slashed, slashed_is}
+use Rattle.zr_key.proofs.CanonForm.{all_chunks}
 use Rattle.zr_match.specs.Match.{Takes, TakesChunk, Covers, is_verbatim_chunk}
 use Rattle.zr_match.specs.Table.{is_any_chunks}
 use Rattle.zr_match.specs.Laws.{is_scalar, piece_passes, chunk_passes}
 use Rattle.zr_match.proofs.PieceTable.{chars, chars_fit, fit_chars}
 use Rattle.zr_match.proofs.ChunkTable.{good_chunk}
 use Rattle.zr_match.proofs.Inclusion.{key_of, map_cut, own_key, is_key_of, key_known, covers_from}
-use Rattle.zr_match.proofs.Right.{all_chunks}
 use Rattle.zr_match.proofs.Fresh.{fresh_there}
 use Rattle.zr_match.proofs.Characters.{shape, high_encode, piece_bytes, bytes_of, common_chars, fits_bytes}
 use Rattle.zr_match.proofs.TextKeys.{good, of_chars, word_scalars, is_text, text_chunks}

@@ -10,6 +10,7 @@ use Rattle.zr_key.specs.Expression.{Piece, Char, AnyChars, Chunk, piece_text, ch
 use Rattle.zr_key.specs.Key.{pieces_of, expression_of, IsKeyText}
 use Rattle.zr_key.proofs.Spelling.{plain_parts}
 use Rattle.zr_key.proofs.Text.{cut_at, slashed, slashed_is}
+use Rattle.zr_key.proofs.CanonForm.{all_chunks}
 use Rattle.zr_match.specs.Match.{Meets}
 use Rattle.zr_match.specs.Table.{pieces_compare}
 use Rattle.zr_match.specs.Laws.{piece_passes}
@@ -17,7 +18,7 @@ use Rattle.zr_match.proofs.Globs.{Common}
 use Rattle.zr_match.proofs.PieceTable.{chars, compare_sound}
 use Rattle.zr_match.proofs.ChunkTable.{Passes, good_key, good_chunk, filled, compare_passes, meets_compare, all_both, both_all, gap_more}
 use Rattle.zr_match.proofs.Characters.{bytes_of, common_chars, fits_bytes, high_encode}
-use Rattle.zr_match.proofs.Right.{all_chunks, some_chunks}
+use Rattle.zr_match.proofs.Right.{some_chunks}
 
 -- the pieces of the bytes of characters are the bytes of their pieces
 high_pieces : (u r : List ℕ) → list_all (λ b. nat_le 128 b) u ≡ true → pieces_of (u ++ r) ≡ chars u ++ pieces_of r

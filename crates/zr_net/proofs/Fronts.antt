@@ -1,17 +1,9 @@
 -- Appending in steps: what was appended so far, and what is kept of it where a later step fails.
-use Rattle.std.proofs.Common.{◌≡◌, ℕ, List, ◌++◌, length, take, drop, Result, subst, sym, ◌∙◌, append_assoc}
+use Rattle.std.proofs.Common.{◌≡◌, ℕ, List, ◌++◌, length, take, Result, subst, sym, ◌∙◌, append_assoc}
 use Rattle.std.specs.Result.{OnOk, OnErr}
 use Rattle.std.proofs.Math.Seq.{take-append_seam}
-use Rattle.std.proofs.lemmas.List.{take-append-drop}
 use Rattle.std.proofs.lemmas.Result.{on_ok_weaker, on_err_weaker}
 use Rattle.zr_bytes.specs.Writing.{KeepsFront}
-
-front_kept : (old more mid now : List ℕ) → mid ≡ old ++ more → KeepsFront mid now → KeepsFront old now
-front_kept old more mid now e h =
-    let rest : List ℕ = drop (length mid) now in
-    let whole : mid ++ rest ≡ now = subst (λ (l : List ℕ). l ++ rest ≡ now) h (take-append-drop (length mid) now) in
-    let split : old ++ (more ++ rest) ≡ now = sym (append_assoc old more rest) ∙ subst (λ (l : List ℕ). l ++ rest ≡ now) e whole in
-    subst (λ (l : List ℕ). take (length old) l ≡ old) split (take-append_seam old (more ++ rest))
 
 -- two steps append one behind the other
 pub appends_both : (old one two mid now : List ℕ) → mid ≡ old ++ one → now ≡ mid ++ two → now ≡ old ++ (one ++ two)
@@ -21,10 +13,6 @@ appends_both old one two mid now e f = f ∙ (subst (λ (l : List ℕ). l ++ two
 pub appends_more : {T E : Type 0} (r : Result T E) (old more last mid now : List ℕ) → mid ≡ old ++ more → OnOk r (now ≡ mid ++ last) → OnOk r (now ≡ old ++ (more ++ last))
 appends_more r old more last mid now e h =
     on_ok_weaker r (λ (k : now ≡ mid ++ last). k ∙ (subst (λ (l : List ℕ). l ++ last ≡ old ++ (more ++ last)) (sym e) (append_assoc old more last))) h
-
--- where the last step fails, what stood in front of all steps is kept
-pub keeps_more : {T E : Type 0} (r : Result T E) (old more mid now : List ℕ) → mid ≡ old ++ more → OnErr r (KeepsFront mid now) → OnErr r (KeepsFront old now)
-keeps_more r old more mid now e h = on_err_weaker r (front_kept old more mid now e) h
 
 pub keeps_same : {T E : Type 0} (r : Result T E) (old more mid now : List ℕ) → mid ≡ old ++ more → OnErr r (now ≡ mid) → OnErr r (KeepsFront old now)
 keeps_same r old more mid now e h =

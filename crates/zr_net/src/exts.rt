@@ -5,11 +5,12 @@ ghost use Rattle.zr_format_spec.specs.Reading.{Makes};
 ghost use Rattle.zr_net.specs.Exts.{content_bytes, number_in, number_at, bytes_in, bytes_at, is_kept_number, is_kept_content, bit_of, with_mark, marks_of, extras_of, target_of, tree_of};
 
 use crate::parts::{
-    ALL, BEST, BUDGET, BUDGET_MARK, COMPLETE, QOS, QOS_MARK, RESPONDER, RESPONDER_MARK, TARGET,
-    TARGET_MARK, TIMEOUT, TIMEOUT_MARK, TIMESTAMP, TIMESTAMP_MARK, TREE,
+    ALL, BEST, BUDGET, BUDGET_MARK, COMPLETE, QOS_MARK, RESPONDER, RESPONDER_MARK, TARGET,
+    TARGET_MARK, TIMEOUT, TIMEOUT_MARK, TIMESTAMP_MARK, TREE,
 };
 use std::alloc::{AllocError, Global};
 use zr_bytes::{ByteString, ReadError};
+use zr_decl::{QOS, TIMESTAMP};
 use zr_ext::{Content, Ext};
 use zr_id::zid::Zid;
 use zr_msg::extras::Extras;

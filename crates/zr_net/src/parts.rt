@@ -10,11 +10,7 @@ pub const RESPONSE: u8 = 0x1B;
 
 pub(crate) const RESPONSE_FINAL: u8 = 0x1A;
 
-/// Extensions that are passed on, with the bit of each among the marks.
-pub(crate) const QOS: u8 = 1;
-
-pub(crate) const TIMESTAMP: u8 = 2;
-/// Of a RESPONSE, bytes.
+/// The extension of a RESPONSE that names who answers, as bytes.
 pub(crate) const RESPONDER: u8 = 3;
 /// Of a REQUEST.
 pub(crate) const TARGET: u8 = 4;
@@ -23,11 +19,10 @@ pub(crate) const BUDGET: u8 = 5;
 
 pub(crate) const TIMEOUT: u8 = 6;
 
-/// A number that is not passed on, of all but a RESPONSE.
-pub(crate) const NODE_ID: u8 = 3;
 /// The root of the tree along which a message goes between routers.
 pub(crate) const TREE: u8 = 7;
 
+/// The bits, among the marks, of the extensions that are passed on.
 pub(crate) const QOS_MARK: u8 = 0x02;
 
 pub(crate) const TIMESTAMP_MARK: u8 = 0x04;

@@ -9,13 +9,14 @@ ghost use Rattle.zr_net.specs.Writing.{ToldFits};
 
 use crate::exts;
 use crate::parts::{
-    BUDGET, NODE_ID, PUSH, QOS, REQUEST, RESPONDER, RESPONSE, RESPONSE_FINAL, TARGET, TIMEOUT,
-    TIMESTAMP, TREE,
+    BUDGET, PUSH, REQUEST, RESPONDER, RESPONSE, RESPONSE_FINAL, TARGET, TIMEOUT, TREE,
 };
 use std::alloc::{AllocError, Global};
 use zr_body::{Body, Place, read_body};
 use zr_bytes::{Cursor, ReadError};
-use zr_decl::{Declared, INTEREST, read_asked, read_declare, read_wire_key};
+use zr_decl::{
+    Declared, INTEREST, NODE_ID, QOS, TIMESTAMP, read_asked, read_declare, read_wire_key,
+};
 use zr_ext::{Ext, Form};
 use zr_format_spec::header::ID;
 use zr_format_spec::read_extensions;

@@ -10,13 +10,13 @@ ghost use Rattle.zr_wirekey.specs.Writing.{writes_key};
 ghost use Rattle.zr_net.specs.Writing.{number_ext, bytes_ext, target_number, kept_exts, has_any, writes_keyed, writes_content, writes_push, writes_request, writes_response, writes_final, writes_front, writes_net, TextFits, Fits};
 
 use crate::parts::{
-    ALL, BUDGET, BUDGET_MARK, COMPLETE, PUSH, QOS, QOS_MARK, REQUEST, RESPONDER, RESPONDER_MARK,
-    RESPONSE, RESPONSE_FINAL, TARGET, TARGET_MARK, TIMEOUT, TIMEOUT_MARK, TIMESTAMP,
-    TIMESTAMP_MARK, TREE,
+    ALL, BUDGET, BUDGET_MARK, COMPLETE, PUSH, QOS_MARK, REQUEST, RESPONDER, RESPONDER_MARK,
+    RESPONSE, RESPONSE_FINAL, TARGET, TARGET_MARK, TIMEOUT, TIMEOUT_MARK, TIMESTAMP_MARK, TREE,
 };
 use std::alloc::{AllocError, Global};
 use zr_body::write_body;
 use zr_bytes::{ByteString, all_or_nothing, put_zint};
+use zr_decl::{QOS, TIMESTAMP};
 use zr_ext::{Content, Ext, write_chain};
 use zr_format_spec::header::header_byte;
 use zr_id::zid::Zid;

@@ -9,6 +9,7 @@ use Rattle.std.proofs.lemmas.List.{length-append, length-take, take_all, take-ta
 use Rattle.std.proofs.Math.Seq.{take-append-add}
 use Rattle.zr_outside.specs.Told.{Consumes}
 use Rattle.zr_outside.specs.Told.{IsAsBefore, Appends, AppendsPrefix}
+use Rattle.zr_outside.proofs.Appending.{prefix_whole}
 use Rattle.zr_script_spec.specs.Lines.{most_bytes, most_kept, ended_lines, open_line}
 use Rattle.zr_script_spec.specs.declared.error.ScriptError.{ScriptError}
 use Rattle.zr_world_spec.specs.Run.{Run, start, on_line, run_of_ended, within}
@@ -25,7 +26,7 @@ use Rattle.zr_netrun_lines.specs.Kept.{Kept, begun, fresh, seen, IsAt, Stopped, 
 use Rattle.zr_netrun_lines.specs.Counted.{CountsOn}
 use Rattle.zr_netrun_lines.proofs.Lines.{ended_append, open_after, open_last}
 use Rattle.zr_netrun_lines.proofs.Runs.{fold_kept, open_kept}
-use Rattle.zr_netrun_lines.proofs.Writing.{turn_more, all_written, written_all, written_flushed, appends_all, prefix_flushed, seen_all, seen_prefix}
+use Rattle.zr_netrun_lines.proofs.Writing.{turn_more, all_written, written_all, written_flushed, prefix_flushed, seen_all, seen_prefix}
 use Rattle.zr_netrun_lines.proofs.Accepting.{HasCounted, piece_counted}
 use Rattle.zr_netrun.specs.Told.{TellsRefusal, Tells}
 use Rattle.zr_netrun.specs.Counted.{CountsFromNone}
@@ -154,7 +155,7 @@ tells_judged x to_end bytes m a b c e e' (Refused error) status h kept told = by
     by s.Refused t = (refused, whole t.0, subst (λ (z : List ℕ). Appends z e e') (sym why) t.1)
     by s.WriteFault (inl t) = inl (prefix_flushed (judged to_end bytes).text m.pending a b c h.2 t.0, as_before e e' t.1)
     by s.WriteFault (inr t) = inr (refused, whole t.0, subst (λ (z : List ℕ). AppendsPrefix z e e') (sym why) t.1)
-    by s.NoMemory t = (prefix_flushed (judged to_end bytes).text m.pending a b c h.2 (appends_all m.pending b c t.0), as_before e e' t.1)
+    by s.NoMemory t = (prefix_flushed (judged to_end bytes).text m.pending a b c h.2 (prefix_whole m.pending b c t.0), as_before e e' t.1)
     by s.Done t = absurd t
     by s.Words t = absurd t
     by s.ReadFault t = absurd t

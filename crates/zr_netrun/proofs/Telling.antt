@@ -7,6 +7,7 @@ use Rattle.std.proofs.lemmas.List.{length-append, length-take, take_all}
 use Rattle.std.proofs.lemmas.Bool.{false≢true}
 use Rattle.zr_outside.specs.Piece.{IsReadToEnd}
 use Rattle.zr_outside.specs.Told.{IsAsBefore, Appends, AppendsPrefix, Consumes}
+use Rattle.zr_outside.proofs.Appending.{prefix_whole}
 use Rattle.zr_script_spec.specs.Lines.{most_bytes, most_kept, ended_lines, open_line, unless_empty, lines}
 use Rattle.zr_script_spec.specs.Report.{too_long_text}
 use Rattle.zr_world_spec.specs.Run.{Run, start, on_line, run_of_ended, within}
@@ -18,7 +19,7 @@ use Rattle.zr_netrun_report.specs.Waiting.{Written}
 use Rattle.zr_netrun_lines.specs.Counted.{CountsOn}
 use Rattle.zr_netrun_lines.specs.Kept.{Kept, fresh, IsAt, KeepsRefused, Stopped, Turns, refused_line}
 use Rattle.zr_netrun_lines.proofs.Runs.{last_kept}
-use Rattle.zr_netrun_lines.proofs.Writing.{turn_more, all_written, appends_all}
+use Rattle.zr_netrun_lines.proofs.Writing.{turn_more, all_written}
 use Rattle.zr_netrun_lines.proofs.Accepting.{last_counted}
 use Rattle.zr_netrun_lines.proofs.Refusing.{keeps_same, refused_piece, refused_last}
 use Rattle.zr_netrun.specs.Counted.{IsRun}
@@ -72,7 +73,7 @@ too_long_told x bytes a b e e' status none long out told = by status told
     by : (status : Status) → Complains status too_long_text e e' → Reports x status false a b e e' bytes
     by s.Refused t = (refused, out, subst (λ (z : List ℕ). Appends z e e') (sym why) t)
     by s.WriteFault t = inr (refused, out, subst (λ (z : List ℕ). AppendsPrefix z e e') (sym why) t)
-    by s.NoMemory t = (appends_all (judged false bytes).text a b out, as_before e e' t)
+    by s.NoMemory t = (prefix_whole (judged false bytes).text a b out, as_before e e' t)
     by s.Done t = absurd t
     by s.Words t = absurd t
     by s.ReadFault t = absurd t

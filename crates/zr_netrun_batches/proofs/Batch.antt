@@ -1,7 +1,8 @@
 -- A session takes a batch of one transport message.
-use Rattle.std.proofs.Common.{◌≡◌, ◌∙◌, ap, refl, sym, subst, ℕ, ◌%◌, ◌/◌, ◌<◌, ◌^◌, false, List, [], ◌∷◌, ◌++◌, length, append-nil, Some, None, Ok, arith}
+use Rattle.std.proofs.Common.{◌≡◌, ◌∙◌, ap, refl, sym, subst, ℕ, ◌<◌, ◌^◌, false, List, [], ◌∷◌, ◌++◌, length, append-nil, Some, None, Ok, arith}
 use Rattle.std.proofs.lemmas.List.{append_cancel_left}
-use Rattle.zr_frame_batch.specs.Framing.{framed, IsFramed}
+use Rattle.zr_frame_batch.specs.Framing.{framed}
+use Rattle.zr_frame_batch.proofs.Cutting.{framed_is}
 use Rattle.zr_trans.specs.declared.trans.Trans.{Trans}
 use Rattle.zr_trans.specs.Writing.{writes_trans, fields_of}
 use Rattle.zr_trans.specs.declared.trans.Trans.TheVariants.{Init, Open, Close, KeepAlive, Frame, Fragment}
@@ -40,9 +41,6 @@ alone o p t e =
     left_item o (length (fields_of t)) false (writes_trans t) p (omega arith)
     ∙ ap (λ (i : Item). and_then i.course (left o (length (fields_of t)) i.in_frame i.rest)) (ap (trans_item o p) e)
     ∙ then_nothing (on_trans o p t)
-
-framed_is : (b : List ℕ) → length b < 2 ^ 16 → IsFramed (framed b) b
-framed_is b h = (length b % 256, length b / 256, refl, omega (arith, h))
 
 batch_comes : (o : OpeningState) (p : Phase) (t : Trans) → length (writes_trans t) < 2 ^ 16 → trans_of (writes_trans t) ≡ Ok (t, []) →
     Comes o p (framed (writes_trans t)) (on_trans o p t) []

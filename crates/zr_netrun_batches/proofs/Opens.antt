@@ -1,7 +1,6 @@
 -- Sessions open: of two routers, and of a client and a router.
-use Rattle.std.proofs.Common.{◌≡◌, ◌∙◌, ap, refl, sym, subst, ℕ, ◌+◌, ◌*◌, ◌-◌, ◌%◌, ◌<◌, ◌≤◌, ◌^◌, Bool, true, false, cond, List, [], ◌∷◌, ◌++◌, length, length-append, append-nil, drop, Option, Some, None, Ok, Err, nat_lt, nat_eq, mod-lt, arith}
+use Rattle.std.proofs.Common.{◌≡◌, ◌∙◌, ap, refl, sym, subst, ℕ, ◌+◌, ◌*◌, ◌-◌, ◌<◌, ◌≤◌, ◌^◌, Bool, true, false, cond, List, [], ◌∷◌, ◌++◌, length, length-append, append-nil, drop, Option, Some, None, Ok, Err, nat_lt, mod-lt, arith}
 use Rattle.std.specs.Prelude.{if◌then◌else◌}
-use Rattle.std.specs.Cmp.Lexicographic.{pointwise}
 use Rattle.std.proofs.lemmas.Bool.Decides.{nat_tests}
 use Rattle.sha2.proofs.Facts256.{length-sha256}
 use Rattle.zr_bytes.specs.Reading.{Read}
@@ -19,7 +18,6 @@ use Rattle.zr_trans.specs.Writing.{writes_trans, writes_speaks, writes_cookie, f
 use Rattle.zr_msg.specs.Peer.{PeerState}
 use Rattle.zr_msg.specs.declared.peer.Role.TheVariants.{Client, Router}
 use Rattle.zr_frame.specs.Outbox.{OutboxState, IsOutbox}
-use Rattle.zr_frame.specs.Turn.{modulus_of}
 use Rattle.zr_open.specs.declared.expected.Expected.{Expected}
 use Rattle.zr_open.specs.declared.expected.Expected.TheVariants as expects
 use Rattle.zr_open.specs.declared.expected.Opened as opened
@@ -29,6 +27,7 @@ use Rattle.zr_open.specs.Sizes.{usual}
 use Rattle.zr_open.specs.Table.{greeting, init_answer, outbox_of}
 use Rattle.zr_open.proofs.Short.{opening_answer_short}
 use Rattle.zr_open.specs.declared.error.Reason.TheVariants.{Invalid}
+use Rattle.zr_open.proofs.Opens.{same_bytes, word_below}
 use Rattle.zr_session.specs.declared.event.SessionEvent.{SessionEvent}
 use Rattle.zr_session.specs.declared.event.SessionEvent.TheVariants as event
 use Rattle.zr_session.specs.declared.fate.End.TheVariants.{Closed}
@@ -84,15 +83,6 @@ reply_batch : (a : OpeningState) → IsBatch (open_answer a)
 reply_batch a = record { fields = (refl, tt); short = opening_answer_short 10 (first_of a) }
 
 -- ---- what each leads to
-
-same_bytes : (bytes : List ℕ) → pointwise nat_eq bytes bytes ≡ true
-same_bytes [] = refl
-same_bytes (b ∷ bytes) =
-    let head : nat_eq b b ≡ true = grind (arith, nat_tests) in
-    rw (head, same_bytes bytes) refl
-
-word_below : (word : ℕ) → nat_lt (word % modulus_of 2) (modulus_of 2) ≡ true
-word_below word = let below : word % modulus_of 2 < modulus_of 2 = mod-lt word (omega arith) in grind (arith, nat_tests, below)
 
 -- an answer that leads to no end has room in a batch
 answers_if : (expected next : Expected) (batch : List ℕ) → (answered expected next batch).ends ≡ None →

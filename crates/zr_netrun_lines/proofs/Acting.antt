@@ -13,11 +13,12 @@ use Rattle.zr_world_spec.specs.Acts.{Outcome, outcome}
 use Rattle.zr_world_spec.specs.Next.{Done}
 use Rattle.zr_world_spec.specs.Run.{Run}
 use Rattle.zr_outside.specs.Told.{AppendsPrefix}
+use Rattle.zr_outside.proofs.Appending.{prefix_none}
 use Rattle.zr_world.specs.Living.{Living, alive, Applies}
 use Rattle.zr_netrun_report.specs.declared.counts.Counts.{Counts}
 use Rattle.zr_netrun_report.specs.Waiting.{Written}
 use Rattle.zr_netrun_lines.specs.Kept.{Kept, seen, IsAt, Stopped, run_behind, run_by, stop_of}
-use Rattle.zr_netrun_lines.proofs.Writing.{prefix_none, nothing_said}
+use Rattle.zr_netrun_lines.proofs.Writing.{nothing_said}
 
 -- ---- errors
 

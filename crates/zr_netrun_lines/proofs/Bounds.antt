@@ -1,6 +1,6 @@
 -- No count of a script passes 2 ^ 64 - 1 (`counts_fit`): each act adds one at most (`act_keeps`), a line has no more acts than a run may
 -- ask for steps (`acts_of_line`), and a script has no more lines than bytes but for one (`few_lines`).
-use Rattle.std.proofs.Common.{◌≡◌, ℕ, zero, suc, ◌+◌, ◌-◌, ◌*◌, ◌^◌, ◌≤◌, min, Bool, true, false, cond, List, [], ◌∷◌, ◌++◌, length, Option, Some, None, Result, Ok, Err, refl, sym, ap, ◌∙◌, arith}
+use Rattle.std.proofs.Common.{◌≡◌, ℕ, ◌+◌, ◌-◌, ◌*◌, ◌^◌, ◌≤◌, min, Bool, true, false, cond, List, [], ◌∷◌, ◌++◌, length, Option, Some, None, Result, Ok, Err, refl, sym, ap, ◌∙◌, arith}
 use Rattle.std.specs.Prelude.{◌==◌, is_some, nat_le, IfSome}
 use Rattle.std.specs.List.{fold, count_by}
 use Rattle.std.proofs.lemmas.Bool.{false≢true, leb-true}
@@ -20,13 +20,14 @@ use Rattle.zr_script_spec.specs.Command.{command_of}
 use Rattle.zr_world_spec.specs.World.{WorldState, Routers, most_steps}
 use Rattle.zr_world_spec.specs.Fan.{most_fan_steps}
 use Rattle.zr_world_spec.specs.Acts.{outcome}
-use Rattle.zr_world_spec.specs.Next.{Done, next, world_after, with_more, run_steps, acts, booking, book_step, run_done, applied}
+use Rattle.zr_world_spec.specs.Next.{Done, run_steps, acts, booking, book_step, run_done, applied}
 use Rattle.zr_world_spec.specs.Run.{Run, start, stepped, commanded, on_line}
 use Rattle.zr_world_spec.specs.Moments.{Numbered, Moment, beginning, went, onward, reached}
 use Rattle.zr_world_spec.specs.Accepted.{entries, accepted_from, accepted}
 use Rattle.zr_world_spec.proofs.Lines.{numbered, refused_stays}
 use Rattle.zr_netrun_report.specs.Summary.{tells_handled, tells_taken, tells_sent, tells_mark, counts_in, counts_of}
 use Rattle.zr_netrun_report.specs.Counted.{all_capped}
+use Rattle.zr_law_numbers.proofs.Counted.{few_steps}
 use Rattle.zr_netrun_lines.proofs.Known.{is_counted, Goes, count_cons, act_keeps}
 
 -- ---- acts
@@ -44,17 +45,6 @@ acts_counted (x ∷ xs) m n h = by (went m (outcome m.world x.0 x.1)) (act_keeps
         let one : count_by is_counted l.report ≤ count_by is_counted m.report + 1 = g.counted in
         omega arith
 
--- a run has no more steps than it asks for
-steps_short : (n steps : ℕ) (w : WorldState) → length (run_steps n steps w) ≤ steps
-unfolding run_steps
-steps_short n zero w = omega arith
-steps_short n (suc steps) w = by (next w) (λ v. steps_short n steps v)
-  where
-    by : (o : Option Act) → ((v : WorldState) → length (run_steps n steps v) ≤ steps) →
-        length (with_more o (λ step. run_steps n steps (world_after w (outcome w n step)))) ≤ suc steps
-    by None ih = omega arith
-    by (Some step) ih = let rest = ih (world_after w (outcome w n step)) in omega arith
-
 most_fanned_steps : most_fan_steps ≤ most_steps
 unfolding most_fan_steps
 most_fanned_steps = omega arith
@@ -63,13 +53,13 @@ most_fanned_steps = omega arith
 few_acts : (w : WorldState) (n : ℕ) (asked : Command) (x : List ReportLine × WorldState) → applied w n asked ≡ Ok x → length (acts w n asked) ≤ most_steps
 unfolding applied book_step
 few_acts w n (c.Act act) x h = omega arith
-few_acts w n c.Fan x h = let few = steps_short n most_fan_steps w in let most = most_fanned_steps in omega (arith, few, most)
+few_acts w n c.Fan x h = let few = few_steps n most_fan_steps w in let most = most_fanned_steps in omega (arith, few, most)
 few_acts w n (c.Run steps) x h = by (nat_le (w.booked + steps) most_steps) refl h
   where
     by : (b : Bool) → nat_le (w.booked + steps) most_steps ≡ b → (cond b (Ok (booking w steps)) (Err Limit) >>= run_done n steps) ≡ Ok x → length (run_steps n steps w) ≤ most_steps
     by true e k =
         let room : w.booked + steps ≤ most_steps = leb-true (w.booked + steps) most_steps e in
-        let short : length (run_steps n steps w) ≤ steps = steps_short n steps w in
+        let short : length (run_steps n steps w) ≤ steps = few_steps n steps w in
         omega arith
     by false e k = absurd (cc)
 

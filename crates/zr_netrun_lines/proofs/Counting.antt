@@ -19,12 +19,12 @@ use Rattle.zr_script_spec.specs.Command.{command_of}
 use Rattle.zr_world_spec.specs.World.{WorldState, Routers, with_booked, router_of, most_steps}
 use Rattle.zr_world_spec.specs.Acts.{Outcome, outcome}
 use Rattle.zr_world_spec.specs.Fan.{kinds_of, most_fan_steps, fanned}
-use Rattle.zr_world_spec.specs.Next.{Done, next, world_after, with_more, run_steps, all_done, fan_steps, fan_step, booking, book_step}
+use Rattle.zr_world_spec.specs.Next.{Done, next, run_steps, all_done, fan_steps, fan_step, booking, book_step}
 use Rattle.zr_world_spec.specs.Run.{on_line}
 use Rattle.zr_world_spec.specs.Moments.{Numbered, Moment, is_step, went, onward}
 use Rattle.zr_world_spec.specs.Accepted.{entries, accepted_from}
 use Rattle.zr_world_spec.proofs.Counting.{recounted, outcome_recounted, steps_recounted}
-use Rattle.zr_world_spec.proofs.Next.{none_left}
+use Rattle.zr_world_spec.proofs.Next.{none_left, one_more}
 use Rattle.zr_world_spec.proofs.Cases.{for_handle, for_take}
 use Rattle.zr_world_spec.proofs.Lines.{all_steps, made, acts_lead, fan_led}
 use Rattle.zr_world_spec.proofs.Sound.{said_first}
@@ -333,13 +333,6 @@ fan_counts k m report u applies counts = record {
 abbrev pub steps_left : Kept → ℕ → WorldState → List Numbered
 steps_left k left w = map (λ a. (k.number, a)) (run_steps k.number left w)
 
--- the next step, and those behind it
-steps_next : (n left : ℕ) (w : WorldState) (step : Act) (x : List ReportLine × WorldState) → next w ≡ Some step → outcome w n step ≡ Ok x →
-    run_steps n (suc left) w ≡ step ∷ run_steps n left x.1
-unfolding run_steps
-steps_next n left w step x is_next is_done =
-    ap (λ o. with_more o (λ s. run_steps n left (world_after w (outcome w n s)))) is_next ∙ ap (λ o. step ∷ run_steps n left (world_after w o)) is_done
-
 -- its steps were counted, and none is done yet
 pub counts_start : (k m : Kept) (steps : ℕ) (u : Unit {0}) → Books (Ok u) (book_step k.world.state steps) k.world m.world → m.counts ≡ k.counts →
     CountsAhead k (acts_by k (c.Run steps)) (steps_left k (steps - 0) m.world.state) m
@@ -370,7 +363,7 @@ counts_step k0 k m steps done a b b' c' h less moves ahead on = by (next k.world
         let state : m.world.state ≡ x.1 = ap (λ (z : Living). z.state) t.1.world ∙ ap (λ (d : Outcome). (run_behind k d).world) s.is_all in
         let more : steps - done ≡ suc (steps - (done + 1)) = omega arith in
         let rest : run_steps k0.number (steps - done) k.world.state ≡ step ∷ run_steps k0.number (steps - (done + 1)) m.world.state =
-        ap (λ z. run_steps k0.number z k.world.state) more ∙ steps_next k0.number (steps - (done + 1)) k.world.state step x s.is_next s.is_done
+        ap (λ z. run_steps k0.number z k.world.state) more ∙ one_more k0.number (steps - (done + 1)) k.world.state step x s.is_next s.is_done
         ∙ ap (λ z. step ∷ run_steps k0.number (steps - (done + 1)) z) (sym state) in
         let left : steps_left k0 (steps - done) k.world.state ≡ (k.number, step) ∷ steps_left k0 (steps - (done + 1)) m.world.state =
         ap (map (λ x. (k0.number, x))) rest ∙ ap (λ z. (z, step) ∷ steps_left k0 (steps - (done + 1)) m.world.state) (sym h.at.number) in

@@ -24,6 +24,7 @@ use Rattle.zr_world_spec.specs.Run.{Run, stepped, commanded, on_line}
 use Rattle.zr_world_spec.proofs.Counting.{recounted, steps_recounted, done_recounted}
 use Rattle.zr_world_spec.proofs.Next.{one_act, one_fan, behind, IsAhead, ahead_at_start, ahead_by_step, closes, ran, applied_run, run_ends, run_prefix, run_refused}
 use Rattle.zr_outside.specs.Told.{AppendsPrefix}
+use Rattle.zr_outside.proofs.Appending.{prefix_none, prefix_more}
 use Rattle.zr_world.specs.Living.{Living, alive, Books}
 use Rattle.zr_netrun_report.specs.Waiting.{Written}
 use Rattle.zr_netrun_lines.specs.declared.runner.RunStop.{RunStop}
@@ -31,7 +32,7 @@ use Rattle.zr_netrun_lines.specs.declared.runner.RunStop.TheVariants.{Refused, N
 use Rattle.zr_netrun_lines.specs.Possible.{RunsGo}
 use Rattle.zr_netrun_lines.specs.Kept.{Kept, writes, seen, fresh, run_behind, run_by, IsAt, Stopped, Turns, StepsOn, stop_of}
 use Rattle.zr_netrun_lines.proofs.Runs.{with_text}
-use Rattle.zr_netrun_lines.proofs.Writing.{turn_behind, nothing_said, prefix_none, prefix_more, prefix_longer}
+use Rattle.zr_netrun_lines.proofs.Writing.{turn_behind, nothing_said, written_prefix}
 use Rattle.zr_netrun_lines.proofs.Acting.{stops_by, error_is_said}
 
 -- ---- a line, by what it asks
@@ -324,7 +325,7 @@ module _ (k0 : Kept) (steps : ℕ) (a : Option (List ℕ)) where
       let joined : ((k0.pending ++ t) ++ s) ++ r ≡ k0.pending ++ (run_behind k0 whole).text =
       ap (λ z. z ++ r) (append_assoc k0.pending t s) ∙ append_assoc k0.pending (t ++ s) r ∙ ap (λ z. k0.pending ++ z) (sym text) in
       subst (λ (z : List ℕ). AppendsPrefix z a c) joined
-      (prefix_longer ((k0.pending ++ t) ++ s) r a c (prefix_more (k0.pending ++ t) p s a b c written out))
+      (prefix_more ((k0.pending ++ t) ++ s) r a c (written_prefix (k0.pending ++ t) p s a b c written out))
 
   -- memory or a write failed at a step
   pub stops : (done : ℕ) (k m : Kept) (l : List ℕ) (b c : Option (List ℕ)) (stop : RunStop) → IsRunning k0 steps done k a b → done < steps →

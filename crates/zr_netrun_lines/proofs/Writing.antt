@@ -3,6 +3,7 @@ use Rattle.std.proofs.Common.{◌≡◌, ℕ, Bool, true, false, List, [], ◌++
 use Rattle.std.specs.List.{fold}
 use Rattle.std.specs.Prelude.{OnOk, OnErr}
 use Rattle.zr_outside.specs.Told.{Appends, AppendsPrefix}
+use Rattle.zr_outside.proofs.Appending.{prefix_more}
 use Rattle.zr_world_spec.specs.World.{WorldState}
 use Rattle.zr_world_spec.specs.Run.{Run, on_line}
 use Rattle.zr_world.specs.Living.{Living, alive}
@@ -22,23 +23,13 @@ written_more t p s p' (Some held) b c h k =
     let gained : c ≡ Some (held ++ (h.0 ++ k'.0)) = k'.2 ∙ ap Some (append_assoc held h.0 k'.0) in
     (h.0 ++ k'.0, whole, gained)
 
-pub prefix_more : (t p s : List ℕ) (a b c : Option (List ℕ)) → Written t p a b → AppendsPrefix (p ++ s) b c → AppendsPrefix (t ++ s) a c
-prefix_more t p s None b c h k = tt
-prefix_more t p s (Some held) b c h k =
+pub written_prefix : (t p s : List ℕ) (a b c : Option (List ℕ)) → Written t p a b → AppendsPrefix (p ++ s) b c → AppendsPrefix (t ++ s) a c
+written_prefix t p s None b c h k = tt
+written_prefix t p s (Some held) b c h k =
     let k' = rw h.2 at k in
     let whole : t ++ s ≡ (h.0 ++ k'.0) ++ k'.1 = ap (λ z. z ++ s) h.1 ∙ append_assoc h.0 p s ∙ ap (λ z. h.0 ++ z) k'.2 ∙ sym (append_assoc h.0 k'.0 k'.1) in
     let gained : c ≡ Some (held ++ (h.0 ++ k'.0)) = k'.3 ∙ ap Some (append_assoc held h.0 k'.0) in
     (h.0 ++ k'.0, k'.1, whole, gained)
-
--- a prefix of a text is one of a longer text
-pub prefix_longer : (t s : List ℕ) (a c : Option (List ℕ)) → AppendsPrefix t a c → AppendsPrefix (t ++ s) a c
-prefix_longer t s None c h = h
-prefix_longer t s (Some held) c h = (h.0, h.1 ++ s, ap (λ z. z ++ s) h.2 ∙ append_assoc h.0 h.1 s, h.3)
-
--- a whole text is a prefix of it
-pub appends_all : (t : List ℕ) (a b : Option (List ℕ)) → Appends t a b → AppendsPrefix t a b
-appends_all t None b h = tt
-appends_all t (Some held) b h = (t, [], sym (append-nil t), h)
 
 -- where nothing waits, the whole text has gone out
 pub all_written : (t : List ℕ) (a b : Option (List ℕ)) → Written t [] a b → Appends t a b
@@ -60,7 +51,7 @@ written_flushed t p a b c h k =
 pub prefix_flushed : (t p : List ℕ) (a b c : Option (List ℕ)) → Written t p a b → AppendsPrefix p b c → AppendsPrefix t a c
 prefix_flushed t p a b c h k =
     let k' : AppendsPrefix (p ++ []) b c = subst (λ (z : List ℕ). AppendsPrefix z b c) (sym (append-nil p)) k in
-    subst (λ (z : List ℕ). AppendsPrefix z a c) (append-nil t) (prefix_more t p [] a b c h k')
+    subst (λ (z : List ℕ). AppendsPrefix z a c) (append-nil t) (written_prefix t p [] a b c h k')
 
 -- a prefix of all that waits and was written is a prefix of the text
 pub prefix_written : (t p : List ℕ) (a b : Option (List ℕ)) → Written t p a b → AppendsPrefix t a b
@@ -87,9 +78,9 @@ turn_behind t earlier q l p m a b c (Ok u) h k = record {
 turn_behind t earlier q l p m a b c (Err (Refused e)) h k =
     (k.0, k.1, subst (λ (z : List ℕ). Written z m.pending a c) (append_assoc earlier t q.text) (written_more (earlier ++ t) p q.text m.pending a b c h k.2))
 turn_behind t earlier q l p m a b c (Err NoMemory) h k =
-    subst (λ (z : List ℕ). AppendsPrefix z a c) (append_assoc earlier t q.text) (prefix_more (earlier ++ t) p q.text a b c h k)
+    subst (λ (z : List ℕ). AppendsPrefix z a c) (append_assoc earlier t q.text) (written_prefix (earlier ++ t) p q.text a b c h k)
 turn_behind t earlier q l p m a b c (Err WriteFault) h k =
-    subst (λ (z : List ℕ). AppendsPrefix z a c) (append_assoc earlier t q.text) (prefix_more (earlier ++ t) p q.text a b c h k)
+    subst (λ (z : List ℕ). AppendsPrefix z a c) (append_assoc earlier t q.text) (written_prefix (earlier ++ t) p q.text a b c h k)
 
 -- one more turn: what is kept is a run's, and lines come
 pub turn_more : (r : Run) (ls : List (List ℕ)) (l0 l1 earlier : List ℕ) (k m : Kept) (a b c : Option (List ℕ)) (result : Result (Unit {0}) RunStop) →
@@ -107,15 +98,10 @@ turn_stops r ls l l' earlier m a c (Refused e) h =
     subst (λ (x : Run). Stopped (Refused e) x earlier m a c) (sym (refused_stays r ls refused)) h
 turn_stops r ls l l' earlier m a c NoMemory h =
     let g = text_grows r ls in
-    subst (λ (z : List ℕ). AppendsPrefix z a c) (append_assoc earlier r.text g.0 ∙ ap (λ z. earlier ++ z) (sym g.1)) (prefix_longer (earlier ++ r.text) g.0 a c h)
+    subst (λ (z : List ℕ). AppendsPrefix z a c) (append_assoc earlier r.text g.0 ∙ ap (λ z. earlier ++ z) (sym g.1)) (prefix_more (earlier ++ r.text) g.0 a c h)
 turn_stops r ls l l' earlier m a c WriteFault h =
     let g = text_grows r ls in
-    subst (λ (z : List ℕ). AppendsPrefix z a c) (append_assoc earlier r.text g.0 ∙ ap (λ z. earlier ++ z) (sym g.1)) (prefix_longer (earlier ++ r.text) g.0 a c h)
-
--- nothing was written
-pub prefix_none : (t : List ℕ) (a : Option (List ℕ)) → AppendsPrefix t a a
-prefix_none t None = tt
-prefix_none t (Some held) = ([], t, refl, ap Some (sym (append-nil held)))
+    subst (λ (z : List ℕ). AppendsPrefix z a c) (append_assoc earlier r.text g.0 ∙ ap (λ z. earlier ++ z) (sym g.1)) (prefix_more (earlier ++ r.text) g.0 a c h)
 
 -- what is so of a sink is so of what is looked at of it
 pub seen_all : (s : Bool) (p : List ℕ) (a b : Option (List ℕ)) → Appends p a b → Appends p (seen s a) (seen s b)

@@ -15,10 +15,10 @@ use Rattle.zr_node_spec.specs.State.{NodeState, tables}
 use Rattle.zr_node_spec.specs.Table.{with_base, is_other_router, base_told, sends_state}
 use Rattle.zr_node_spec.proofs.OwnName.{me_record}
 use Rattle.zr_node_spec.proofs.NoNewChildren.{no_new_children}
+use Rattle.zr_query.proofs.Told.{tells_nothing}
 use Rattle.zr_node.specs.Done.{Part, IsLeft}
 use Rattle.zr_node.specs.Steps.{told_part, news_to}
 use Rattle.zr_node.proofs.Done.{IsFirst}
-use Rattle.zr_node.proofs.Retold.{silent}
 
 pub older_is : (b : Bool) → Old ≡ cond b Newer Old → b ≡ false
 older_is true h = cc
@@ -45,7 +45,7 @@ module _ (n : NodeState) (from : ℕ) (told : RecordState) where
   pub told_by_client : (said : List (LinkNo × Msg)) → leads_to_router n.links from ≡ false → IsLeft (told_part n from told) n said said
   told_by_client said client =
       subst (λ (b : Bool). IsLeft (told_by b (is_newer n.base told)) n said said) (sym client)
-      (record { allowed = refl; state = refl; sends = silent (told_by false (is_newer n.base told)).sends said (λ to. no_new_children (tables n) n.base.records refl to) })
+      (record { allowed = refl; state = refl; sends = tells_nothing (told_by false (is_newer n.base told)).sends said (λ to. no_new_children (tables n) n.base.records refl to) })
 
   -- and nothing of a record that isn't newer
   pub told_again : (first last now : NodeState) (said : List (LinkNo × Msg)) → leads_to_router n.links from ≡ true → first ≡ n → last ≡ with_base first (after_record first.base told) → now ≡ last
@@ -55,7 +55,7 @@ module _ (n : NodeState) (from : ℕ) (told : RecordState) where
       let stays : now ≡ n = f ∙ e ∙ ap (λ (m : NodeState). with_base m (after_record m.base told)) same ∙ ap (λ (b : Bool). with_base n (cond b (kept n.base told) n.base)) older in
       subst (λ (b : Bool). IsLeft (told_by (leads_to_router n.links from) b) now said said) (sym older)
       (subst (λ (b : Bool). IsLeft (told_by b false) now said said) (sym router)
-      (record { allowed = refl; state = stays; sends = silent (told_by true false).sends said (λ to. no_new_children (tables n) n.base.records refl to) }))
+      (record { allowed = refl; state = stays; sends = tells_nothing (told_by true false).sends said (λ to. no_new_children (tables n) n.base.records refl to) }))
 
   -- what is left by one that is newer
   pub told_newer : (first now : NodeState) → leads_to_router n.links from ≡ true → first ≡ n → now ≡ with_base first (after_record first.base told) → now ≡ with_base n (base_told n from told)

@@ -6,11 +6,12 @@ use Rattle.zr_msg.specs.declared.msg.Msg.{Msg}
 use Rattle.zr_node_spec.specs.Early.{is_early}
 use Rattle.zr_node_spec.specs.Event.{Tells, TellsPrefix}
 use Rattle.zr_node_spec.specs.State.{NodeState}
+use Rattle.zr_query.proofs.Told.{nothing_yet}
 use Rattle.zr_node.specs.Answer.{IsJudged}
 use Rattle.zr_node.specs.Done.{Part, IsLeft, IsLacking, IsDone}
 use Rattle.zr_node.specs.declared.failure.NodeFailure.{NodeFailure}
 use Rattle.zr_node.specs.declared.failure.NodeFailure.TheVariants.{Refused, NoMemory}
-use Rattle.zr_node.proofs.Retold.{nothing_told, all_told, retold, retold_prefix, told_both, prefix_first, prefix_second}
+use Rattle.zr_node.proofs.Retold.{all_told, retold, retold_prefix, told_both, prefix_first, prefix_second}
 
 -- ---- the exit of a `?`
 
@@ -24,12 +25,12 @@ lacked p r now said all h late sent = failed p NoMemory r now said all h (record
 
 -- before anything was sent
 pub nothing_sent : (p : Part) (r : Result (Unit {0}) NodeFailure) (now : NodeState) (said : List (LinkNo × Msg)) → IsErrAnd r (λ f. f ≡ NoMemory) → is_early p.refused ≡ false → IsDone p r now said said
-nothing_sent p r now said h late = lacked p r now said said h late (nothing_told p.sends said)
+nothing_sent p r now said h late = lacked p r now said said h late (nothing_yet p.sends said)
 
 -- what was judged to be refused is, where nothing has changed
 pub judged_failed : (p : Part) (e : NodeFailure) (now : NodeState) (said : List (LinkNo × Msg)) → IsJudged {X = Unit {0}} p.refused (Err e) → now ≡ p.before → IsDone p (Err e) now said said
 judged_failed p (Refused why) now said h same = record { refused = h; state = same; sends = refl }
-judged_failed p NoMemory now said h same = record { late = h; sends = nothing_told p.sends said }
+judged_failed p NoMemory now said h same = record { late = h; sends = nothing_yet p.sends said }
 
 -- ---- the same part
 

@@ -23,6 +23,7 @@ use Rattle.zr_node_spec.specs.Tables.{link_at, is_router}
 use Rattle.zr_node_spec.specs.Event.{Tells, TellsPrefix}
 use Rattle.zr_node_spec.specs.State.{NodeState, tables}
 use Rattle.zr_node_spec.specs.Table.{base_down, base_parted, without_link, with_rows, sends_rows, sends_down, sends_parted, refuses_rows, refuses_down, refuses_parting}
+use Rattle.zr_query.proofs.Told.{nothing_yet}
 use Rattle.zr_node.specs.Done.{Part, IsLeft, IsLacking, IsDone}
 use Rattle.zr_node.specs.Steps.{with_links, with_table, ended_on, event_part, asked_part, leave_part, down_part, parted_from}
 use Rattle.zr_node.specs.declared.asked.Asked.TheVariants.{Leave}
@@ -31,7 +32,7 @@ use Rattle.zr_node.specs.declared.failure.NodeFailure.TheVariants.{Refused, NoMe
 use Rattle.zr_node.proofs.Done.{redone}
 use Rattle.zr_node.proofs.Early.{none_late}
 use Rattle.zr_node.proofs.Quiet.{nothing_more, rows_stay, rows_silent, rows_allowed}
-use Rattle.zr_node.proofs.Retold.{nothing_told, all_told, told_behind, told_both, prefix_first}
+use Rattle.zr_node.proofs.Retold.{all_told, told_behind, told_both, prefix_first}
 
 first_alone : (x y : Option NodeError) → y ≡ None → x ≡ option_or x y
 first_alone None y e = sym e
@@ -137,7 +138,7 @@ module _ (n : NodeState) (link : LinkNo) where
   -- that fails, and what was to be told of it is forgotten
   pub leaving_failed : (e : NodeFailure) (now : NodeState) (said told : List (LinkNo × Msg)) → IsDone leaves (Err e) now [] told → IsDone (leave_part n link) (Err e) now said said
   leaving_failed (Refused why) now said told h = record { refused = h.refused; state = h.state; sends = refl }
-  leaving_failed NoMemory now said told h = record { late = h.late; sends = nothing_told (leave_part n link).sends said }
+  leaving_failed NoMemory now said told h = record { late = h.late; sends = nothing_yet (leave_part n link).sends said }
 
   module _ (first : NodeState) (told : List (LinkNo × Msg)) (left : IsLeft leaves first [] told) (said mid : List (LinkNo × Msg)) where
     -- memory ran out in the finals

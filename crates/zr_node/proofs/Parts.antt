@@ -19,6 +19,7 @@ use Rattle.zr_msg.specs.declared.peer.LinkPeer.{LinkPeer}
 use Rattle.zr_node_spec.specs.Tables.{TableState, HaveSameTrees, leads_to_client}
 use Rattle.zr_node_spec.specs.State.{NodeState, tables, local_state}
 use Rattle.zr_node_spec.specs.Table.{after_from, with_clients, with_rows, sends, sends_from, sends_rows, refuses_from, refuses_rows, refuses_noted, live, local_error}
+use Rattle.zr_query.proofs.Told.{nothing_yet, tells_nothing}
 use Rattle.zr_node.specs.Answer.{IsJudged}
 use Rattle.zr_node.specs.Done.{Part, IsLeft, IsDone}
 use Rattle.zr_node.specs.Steps.{event_part, message_part, asked_part, declare_part, undeclare_part, interest_part}
@@ -27,7 +28,6 @@ use Rattle.zr_node.specs.declared.failure.NodeFailure.{NodeFailure}
 use Rattle.zr_node.specs.declared.failure.NodeFailure.TheVariants.{Refused, NoMemory}
 use Rattle.zr_node.proofs.Done.{redone}
 use Rattle.zr_node.proofs.Quiet.{nothing_more, rows_stay, rows_silent}
-use Rattle.zr_node.proofs.Retold.{nothing_told, silent}
 
 -- tables with the same links and records go by the same
 pub goes_by : (t u : TableState) (links : List LinkPeer) (b : BaseState) → HaveSameTrees t u → u.links ≡ links → u.base ≡ b → GoesBy t links b
@@ -54,7 +54,7 @@ pub ignored : (n : NodeState) (from : ℕ) (msg same : Msg) (said : List (LinkNo
     → (after_from n from msg).base ≡ n.base → IsLeft (message_part n from same) n said said
 ignored n from msg same said is left sends refused base =
     let nothing : Part = record { before = n; left = n; sends = λ to. []; refused = None } in
-    message_done n from msg same is (Ok tt) n said said nothing (record { allowed = refl; state = refl; sends = silent (λ to. []) said (λ to. refl) }) refl left sends refused base
+    message_done n from msg same is (Ok tt) n said said nothing (record { allowed = refl; state = refl; sends = tells_nothing (λ to. []) said (λ to. refl) }) refl left sends refused base
 
 -- ---- what a link declares
 
@@ -77,7 +77,7 @@ module _ (n : NodeState) (from : ℕ) (r : Row) where
   pub declare_nothing : (said : List (LinkNo × Msg)) → leads_to_client n.links from ≡ false → IsLeft (declare_part n from r) n said said
   declare_nothing said lead =
       subst (λ b. IsLeft (declare_by b) n said said) (sym lead)
-      (record { allowed = refl; state = rows_stay n; sends = silent (λ to. sends_rows n n.rows to) said (rows_silent n) })
+      (record { allowed = refl; state = rows_stay n; sends = tells_nothing (λ to. sends_rows n n.rows to) said (rows_silent n) })
 
 module _ (n : NodeState) (link : LinkNo) (id : ℕ) (kind : Kind) where
   abbrev key : Key
@@ -100,7 +100,7 @@ module _ (n : NodeState) (link : LinkNo) (id : ℕ) (kind : Kind) where
       → IsLeft (undeclare_part n link.0 (record { link = link.0; kind = id_kind kind; id = id })) n said said
   undeclare_nothing said lead =
       subst (λ b. IsLeft (undeclare_by b) n said said) (sym lead)
-      (record { allowed = refl; state = rows_stay n; sends = silent (λ to. sends_rows n n.rows to) said (rows_silent n) })
+      (record { allowed = refl; state = rows_stay n; sends = tells_nothing (λ to. sends_rows n n.rows to) said (rows_silent n) })
 
 -- ---- an interest that is live from now on, or none
 
@@ -139,7 +139,7 @@ module _ (n : NodeState) (link : LinkNo) (id : ℕ) (i : Option Interest) where
 
   pub interest_nothing : (said : List (LinkNo × Msg)) → leads_to_client n.links link.0 ≡ false → IsLeft (interest_part n link.0 id i) n said said
   interest_nothing said lead =
-      subst (λ b. IsLeft (interest_by b) n said said) (sym lead) (record { allowed = refl; state = refl; sends = silent (λ to. []) said (λ to. refl) })
+      subst (λ b. IsLeft (interest_by b) n said said) (sym lead) (record { allowed = refl; state = refl; sends = tells_nothing (λ to. []) said (λ to. refl) })
 
   pub interest_noted : (r : Result (Unit {0}) NodeFailure) (now : NodeState) (said : List (LinkNo × Msg)) → leads_to_client n.links link.0 ≡ true
       → OnOk r (now ≡ with_clients n (noted n.clients link id i)) → IsJudged (option_map (λ x. local_error id x) (refuses_interest (local_state n) link id i)) r → OnErr r (now ≡ n)
@@ -148,9 +148,9 @@ module _ (n : NodeState) (link : LinkNo) (id : ℕ) (i : Option Interest) where
     where
       by : (r : Result (Unit {0}) NodeFailure) → OnOk r (now ≡ with_clients n (noted n.clients link id i)) → IsJudged (option_map (λ x. local_error id x) (refuses_interest (local_state n) link id i)) r
           → OnErr r (now ≡ n) → IsDone (interest_by true) r now said said
-      by (Ok x) s j u = record { allowed = j; state = s; sends = silent (λ to. []) said (λ to. refl) }
+      by (Ok x) s j u = record { allowed = j; state = s; sends = tells_nothing (λ to. []) said (λ to. refl) }
       by (Err (Refused why)) s j u = record { refused = j; state = u; sends = refl }
-      by (Err NoMemory) s j u = record { late = j; sends = nothing_told (λ to. []) said }
+      by (Err NoMemory) s j u = record { late = j; sends = nothing_yet (λ to. []) said }
 
 -- ---- the same event
 

@@ -18,7 +18,7 @@ use Rattle.zr_node_spec.proofs.NoNewChildren.{no_child_is_new, no_new_children}
 use Rattle.zr_node_spec.proofs.Changes.{no_changes}
 use Rattle.zr_tree.specs.Same.{HaveSameEdges}
 use Rattle.zr_tree.proofs.Stays.{child_stays}
-use Rattle.zr_node.proofs.Retold.{nothing_told, silent}
+use Rattle.zr_query.proofs.Told.{nothing_yet, tells_nothing}
 
 -- records of the same edges
 pub no_child_by_edges : (t : TableState) (before records : List RecordState) → before ≡ records → HaveSameEdges before t.base.records → (to : ℕ) → sends_snapshots t records to ≡ []
@@ -28,12 +28,12 @@ no_child_by_edges t before records e same to =
 -- so there is nothing to say of them
 pub quiet_ok : {X Y : Type 0} (n : NodeState) (before base : BaseState) (r : Result X Y) (said : List (LinkNo × Msg)) → HaveSameEdges before.records n.base.records → before ≡ base →
     OnOk r (Tells (sends_snapshots (tables n) base.records) said said)
-quiet_ok n before base (Ok x) said same e = silent (sends_snapshots (tables n) base.records) said (λ to. no_child_by_edges (tables n) before.records base.records (ap (λ (b : BaseState). b.records) e) same to)
+quiet_ok n before base (Ok x) said same e = tells_nothing (sends_snapshots (tables n) base.records) said (λ to. no_child_by_edges (tables n) before.records base.records (ap (λ (b : BaseState). b.records) e) same to)
 quiet_ok n before base (Err x) said same e = tt
 
 pub quiet_err : {X Y : Type 0} (n : NodeState) (records : List RecordState) (r : Result X Y) (said : List (LinkNo × Msg)) → OnErr r (TellsPrefix (sends_snapshots (tables n) records) said said)
 quiet_err n records (Ok x) said = tt
-quiet_err n records (Err x) said = nothing_told (sends_snapshots (tables n) records) said
+quiet_err n records (Err x) said = nothing_yet (sends_snapshots (tables n) records) said
 
 -- what is said stays all that is said
 pub nothing_more : (t : TableState) (before : List RecordState) (said : List Msg) → t.base.records ≡ before → (to : ℕ) → said ≡ said ++ sends_snapshots t before to

@@ -1,19 +1,11 @@
 -- What is told by rows in a row, and by rows that say nothing.
-use Rattle.std.proofs.Common.{◌≡◌, ℕ, ◌∙◌, List, [], ◌++◌, append_assoc, refl, sym, ap, subst}
+use Rattle.std.proofs.Common.{◌≡◌, ℕ, ◌∙◌, List, [], ◌++◌, append_assoc, sym, ap, subst}
 use Rattle.std.proofs.lemmas.List.{append-nil}
 use Rattle.zr_id.specs.declared.link.LinkNo.{LinkNo}
 use Rattle.zr_msg.specs.declared.msg.Msg.{Msg}
 use Rattle.zr_node_spec.specs.Event.{on_link, Tells, TellsPrefix}
 use Rattle.zr_lists.specs.Prefix.{IsPrefixOf}
 use Rattle.zr_node_spec.proofs.Told.{on_link-append}
-
--- nothing at all is a prefix
-pub nothing_told : (rows : ℕ → List Msg) (before : List (LinkNo × Msg)) → TellsPrefix rows before before
-nothing_told rows before = record { sent = []; appended = sym (append-nil before); each = λ to. (rows to.0, refl) }
-
--- where there is nothing to say, all is said
-pub silent : (rows : ℕ → List Msg) (before : List (LinkNo × Msg)) → ((to : ℕ) → rows to ≡ []) → Tells rows before before
-silent rows before none = record { sent = []; appended = sym (append-nil before); each = λ to. sym (none to.0) }
 
 -- all of it is a prefix
 pub all_told : (rows : ℕ → List Msg) (before now : List (LinkNo × Msg)) → Tells rows before now → TellsPrefix rows before now

@@ -12,17 +12,17 @@ use Rattle.zr_msg.specs.declared.peer.Role.TheVariants.{Client, Router}
 use Rattle.zr_node_spec.specs.State.{NodeState, new_link, tables}
 use Rattle.zr_node_spec.specs.Table.{with_base, with_link, without_link, joined, own_link, parted}
 use Rattle.zr_node_spec.proofs.NoNewChildren.{no_new_children}
+use Rattle.zr_query.proofs.Told.{tells_nothing}
 use Rattle.zr_node.specs.Done.{IsLeft}
 use Rattle.zr_node.specs.Steps.{with_links, with_table, ended_on, up_as, up_part, join_part, parted_from, parting_part, down_part, news_to}
 use Rattle.zr_node.proofs.Done.{IsFirst}
-use Rattle.zr_node.proofs.Retold.{silent}
 
 -- a client has come: nothing is sent
 pub client_up : (n : NodeState) (link : LinkNo) (peer : PeerState) (now : NodeState) (said : List (LinkNo × Msg)) → peer.role ≡ Client → now ≡ with_links n (with_link n.links (new_link link peer))
     → IsLeft (up_part n link peer peer.role) now said said
 client_up n link peer now said is e =
     subst (λ (role : Role). IsLeft (up_part n link peer role) now said said) (sym is)
-    (record { allowed = refl; state = e; sends = silent (up_part n link peer Client).sends said (λ to. no_new_children (tables (up_as n link peer Client)) n.base.records refl to) })
+    (record { allowed = refl; state = e; sends = tells_nothing (up_part n link peer Client).sends said (λ to. no_new_children (tables (up_as n link peer Client)) n.base.records refl to) })
 
 -- the records go first, and then the snapshots for new children
 pub join_first : (n : NodeState) (link : LinkNo) (peer : PeerState) → IsFirst (join_part n link peer) (up_part n link peer Router) (λ to. news_to n (up_as n link peer Router) to)

@@ -1,5 +1,5 @@
 -- What the links of a router are they stay where one comes up and where one goes down.
-use Rattle.std.proofs.Common.{◌≡◌, ℕ, ◌==◌, nat_lt, not, Bool, true, false, cond, List, [], ◌∷◌, ◌++◌, Some, None, Less, Equal, Greater, map, filter, refl, sym, ap, subst, ◌∙◌}
+use Rattle.std.proofs.Common.{◌≡◌, ℕ, ◌==◌, nat_lt, not, Bool, true, false, cond, List, [], ◌∷◌, ◌++◌, Some, None, map, filter, refl, sym, ap, subst, ◌∙◌}
 use Rattle.std.specs.List.{AllByRecursion}
 use Rattle.std.specs.List.Sorted.{IsStrictlySortedBy}
 use Rattle.std.specs.Ordering.{nat_cmp, is_lt}
@@ -18,7 +18,9 @@ use Rattle.zr_msg.specs.declared.peer.LinkPeer.{LinkPeer}
 use Rattle.zr_node_spec.specs.Table.{with_link, without_link}
 use Rattle.zr_lists.proofs.Each.{All-append, All-front, All-back, All-kept}
 use Rattle.zr_lists.proofs.Sorted.{sorted_inserted}
-use Rattle.zr_node_spec.proofs.Links.{AreAscending, numbers_of, none_passes, find_kept, find_beside, find_here, parted_links}
+use Rattle.zr_lists.proofs.Numbers.{nat_lt_is}
+use Rattle.zr_lists.proofs.Filters.{find_filter_there}
+use Rattle.zr_node_spec.proofs.Links.{AreAscending, numbers_of, none_passes, find_beside, find_here, parted_links}
 
 -- no links
 pub no_links : (me : List ℕ) → AreLinks me []
@@ -37,14 +39,6 @@ numbers-filter p (l ∷ links) = by (p l.link.0) (numbers-filter p links)
     by true ih = ap (λ ns. l.link.0 ∷ ns) ih
     by false ih = ih
 
-is_lt-nat : (a b : ℕ) → is_lt (nat_cmp a b) ≡ nat_lt a b
-is_lt-nat a b = by (nat_lt a b) (a == b)
-  where
-    by : (s t : Bool) → is_lt (cond s Less (cond t Equal Greater)) ≡ s
-    by true t = refl
-    by false true = refl
-    by false false = refl
-
 filter_alike : {X : Type 0} (p q : X → Bool) (xs : List X) → ((x : X) → p x ≡ q x) → filter p xs ≡ filter q xs
 filter_alike p q [] h = refl
 filter_alike p q (x ∷ xs) h = rw (h x, filter_alike p q xs h) refl
@@ -54,9 +48,9 @@ ascending_up links l up =
     let ns : List ℕ = map (λ k. k.link.0) links in
     let n : ℕ = l.link.0 in
     let below : map (λ k. k.link.0) (filter (λ k. nat_lt k.link.0 n) links) ≡ filter (λ m. is_lt (nat_cmp m n)) ns =
-    numbers-filter (λ m. nat_lt m n) links ∙ filter_alike _ _ ns (λ m. sym (is_lt-nat m n)) in
+    numbers-filter (λ m. nat_lt m n) links ∙ filter_alike _ _ ns (λ m. sym (nat_lt_is m n)) in
     let above : map (λ k. k.link.0) (filter (λ k. nat_lt n k.link.0) links) ≡ filter (λ m. is_lt (nat_cmp n m)) ns =
-    numbers-filter (λ m. nat_lt n m) links ∙ filter_alike _ _ ns (λ m. sym (is_lt-nat n m)) in
+    numbers-filter (λ m. nat_lt n m) links ∙ filter_alike _ _ ns (λ m. sym (nat_lt_is n m)) in
     let same : map (λ k. k.link.0) (with_link links l) ≡ filter (λ m. is_lt (nat_cmp m n)) ns ++ n ∷ filter (λ m. is_lt (nat_cmp n m)) ns =
     map-append (λ (k : LinkPeer). k.link.0) (filter (λ k. nat_lt k.link.0 n) links) (l ∷ filter (λ k. nat_lt n k.link.0) links)
     ∙ ap (λ ms. ms ++ n ∷ map (λ k. k.link.0) (filter (λ k. nat_lt n k.link.0) links)) below
@@ -105,6 +99,6 @@ pub are_links_down : (me : List ℕ) (links : List LinkPeer) (n : ℕ) → AreLi
 are_links_down me links n h = record {
   ascending = ascending_down links n h.ascending;
   numbers = numbers_of (without_link links n) (ascending_down links n h.ascending);
-  names = All-kept _ _ (λ l. not (is_link n l)) links (λ l found kept. find_kept (λ k. is_named k.peer.id l.peer.id) (λ k. not (is_link n k)) links l found kept) h.names;
+  names = All-kept _ _ (λ l. not (is_link n l)) links (λ l found kept. find_filter_there (λ k. is_named k.peer.id l.peer.id) (λ k. not (is_link n k)) links l found kept) h.names;
   others = All-kept _ _ (λ l. not (is_link n l)) links (λ l other kept. other) h.others;
 }

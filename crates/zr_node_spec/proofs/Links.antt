@@ -102,18 +102,6 @@ find_passes p (y ∷ xs) x h = by (p y) refl h (find_passes p xs x)
     by true e h ih = let same : y ≡ x = cc in ap p (sym same) ∙ e
     by false e h ih = ih h
 
--- what a test finds is found among those that a filter keeps, if it is kept
-pub find_kept : {X : Type 0} (p q : X → Bool) (xs : List X) (x : X) → find p xs ≡ Some x → q x ≡ true → find p (filter q xs) ≡ Some x
-find_kept p q [] x h k = h
-find_kept p q (y ∷ xs) x h k = by (p y) (q y) refl refl h (λ g. find_kept p q xs x g k)
-  where
-    by : (a b : Bool) → p y ≡ a → q y ≡ b → cond a (Some y) (find p xs) ≡ Some x → (find p xs ≡ Some x → find p (filter q xs) ≡ Some x)
-        → find p (cond b (y ∷ filter q xs) (filter q xs)) ≡ Some x
-    by true true e f h ih = rw e h
-    by true false e f h ih = let same : y ≡ x = cc in absurd (true≢false (sym k ∙ ap q (sym same) ∙ f))
-    by false true e f h ih = rw e (ih h)
-    by false false e f h ih = ih h
-
 -- where nothing is found, no element passes
 pub none_passes : {X : Type 0} (p : X → Bool) (xs : List X) → find p xs ≡ None → AllByRecursion (λ x. p x ≡ false) xs
 none_passes p [] h = tt

@@ -13,14 +13,14 @@ use Rattle.zr_open.specs.Sizes.{frame_bits, usual, offered, agreed, told}
 use Rattle.zr_open.specs.Table.{init_answer, outbox_of, milliseconds}
 use Rattle.zr_open.specs.Laws.{RoutersOpen, ClientOpens}
 
-same_bytes : (bytes : List ℕ) → pointwise nat_eq bytes bytes ≡ true
+pub same_bytes : (bytes : List ℕ) → pointwise nat_eq bytes bytes ≡ true
 same_bytes [] = refl
 same_bytes (b ∷ bytes) =
     let head : nat_eq b b ≡ true = grind (arith, nat_tests) in
     rw (head, same_bytes bytes) refl
 
 -- a word within the modulus of 32 bits
-word_below : (word : ℕ) → nat_lt (word % modulus_of 2) (modulus_of 2) ≡ true
+pub word_below : (word : ℕ) → nat_lt (word % modulus_of 2) (modulus_of 2) ≡ true
 word_below word = let below : word % modulus_of 2 < modulus_of 2 = mod-lt word (omega arith) in grind (arith, nat_tests, below)
 
 pub routers_open : (a d : OpeningState) → RoutersOpen a d

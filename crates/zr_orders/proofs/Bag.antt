@@ -1,14 +1,18 @@
 -- Journeys: what is under way weighs, with all that it becomes, what moves until nothing is under way.
-use Rattle.std.proofs.Common.{◌≡◌, ℕ, zero, suc, ◌+◌, ◌≤◌, List, [], ◌∷◌, ◌++◌, length, sym, ◌∙◌, arith}
+use Rattle.std.proofs.Common.{◌≡◌, ℕ, zero, suc, ◌+◌, ◌≤◌, List, [], ◌∷◌, ◌++◌, length, sym, ◌∙◌, arith, refl}
 use Rattle.zr_orders.specs.Bag.{weigh, Moves, Goes, OrdersAreOne, PartsFit}
 
 pub weigh-append : {X : Type 0} (f : X → ℕ) (xs ys : List X) → weigh f (xs ++ ys) ≡ weigh f xs + weigh f ys
 weigh-append f [] ys = omega arith
 weigh-append f (x ∷ xs) ys = omega (arith, weigh-append f xs ys)
 
-weigh-le : {X : Type 0} (f g : X → ℕ) (le : (x : X) → f x ≤ g x) (xs : List X) → weigh f xs ≤ weigh g xs
-weigh-le f g le [] = omega arith
-weigh-le f g le (x ∷ xs) = omega (arith, le x, weigh-le f g le xs)
+pub weigh_le : {X : Type 0} (f g : X → ℕ) (le : (x : X) → f x ≤ g x) (xs : List X) → weigh f xs ≤ weigh g xs
+weigh_le f g le [] = omega arith
+weigh_le f g le (x ∷ xs) = omega (arith, le x, weigh_le f g le xs)
+
+pub weigh_same : {X : Type 0} (f g : X → ℕ) → ((x : X) → f x ≡ g x) → (xs : List X) → weigh f xs ≡ weigh g xs
+weigh_same f g same [] = refl
+weigh_same f g same (x ∷ xs) = λ i. same x i + weigh_same f g same xs i
 
 module _ {X : Type 0} (next : X → List X) where
   -- the weight of a journey: of a thing, and of all that it becomes, so many times over
@@ -19,7 +23,7 @@ module _ {X : Type 0} (next : X → List X) where
   -- journeys that go on for longer weigh no less
   longer : (f : X → ℕ) (n : ℕ) (x : X) → journey f n x ≤ journey f (suc n) x
   longer f zero x = omega arith
-  longer f (suc n) x = omega (arith, weigh-le (journey f n) (journey f (suc n)) (longer f n) (next x))
+  longer f (suc n) x = omega (arith, weigh_le (journey f n) (journey f (suc n)) (longer f n) (next x))
 
   -- where nothing is under way at the end, the journeys of those before, for as many times as there are steps, weigh what has moved
   pub whole : (f : X → ℕ) (n : ℕ) (xs before : List X) → length xs ≤ n → Goes next before xs [] → weigh (journey f n) before ≡ weigh f xs
@@ -34,8 +38,8 @@ module _ {X : Type 0} (next : X → List X) where
       let mid_two = g.1.2 (journey f (suc n)) in
       let parts_one = weigh-append (journey f n) (next x) g.1.0 in
       let parts_two = weigh-append (journey f (suc n)) (next x) g.1.0 in
-      let more_next = weigh-le (journey f n) (journey f (suc n)) (longer f n) (next x) in
-      let more_rest = weigh-le (journey f n) (journey f (suc n)) (longer f n) g.1.0 in
+      let more_next = weigh_le (journey f n) (journey f (suc n)) (longer f n) (next x) in
+      let more_rest = weigh_le (journey f n) (journey f (suc n)) (longer f n) g.1.0 in
       omega (arith, one, two, was, mid_one, mid_two, parts_one, parts_two, more_next, more_rest)
 
 pub orders_are_one : (X : Type 0) → OrdersAreOne X
@@ -58,7 +62,7 @@ module _ {X : Type 0} (next : X → List X) (f : X → ℕ) (n : ℕ) where
       let mid_now = g.2 (journey next f k) in
       let parts = weigh-append (journey next f k) (next x) g.0 in
       let more = longer next f k x in
-      let more_rest = weigh-le (journey next f k) (journey next f (suc k)) (longer next f k) g.0 in
+      let more_rest = weigh_le (journey next f k) (journey next f (suc k)) (longer next f k) g.0 in
       omega (arith, now, then, was_now, was_then, mid_now, parts, more, more_rest)
 
   at_least : (x : X) → f x ≤ journey next f (suc n) x
@@ -68,7 +72,7 @@ module _ {X : Type 0} (next : X → List X) (f : X → ℕ) (n : ℕ) where
   left_fits [] before rest total g h =
       let all = h (suc n) (omega arith) in
       let same = g (journey next f (suc n)) in
-      let least = weigh-le f (journey next f (suc n)) at_least rest in
+      let least = weigh_le f (journey next f (suc n)) at_least rest in
       omega (arith, all, same, least)
   left_fits (y ∷ ys) before rest total g h =
       let on = moved_on before g.0 y total g.1 h in

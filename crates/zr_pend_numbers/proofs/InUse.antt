@@ -8,10 +8,10 @@ use Rattle.std.specs.Ordering.{is_eq, nat_cmp}
 use Rattle.std.proofs.lemmas.Bool.{eqb-true, not-true}
 use Rattle.std.proofs.lemmas.List.{drop_more}
 use Rattle.zr_lists.proofs.Numbers.{nat_eq_is, nat_eq_turned}
+use Rattle.zr_lists.proofs.Parts.{and_left, and_right, left_false, right_false}
 use Rattle.zr_pend_spec.specs.declared.branch.Branch.{Branch}
 use Rattle.zr_pend_spec.specs.Row.{is_branch}
 use Rattle.zr_pend_numbers.specs.Numbers.{Uses, is_in, is_used, used_on}
-use Rattle.zr_pend_spec.proofs.Parts.{and_left, and_right, left_false, right_false}
 
 -- ---- those of one link among those of all
 

@@ -6,8 +6,8 @@ use Rattle.std.specs.List.Sorted.{IsBinarySearchResult}
 use Rattle.std.specs.Ordering.{nat_cmp}
 use Rattle.std.proofs.lemmas.Bool.{eqb-true, eqb-false, eq-eqb, false_from_ne_true, leb-true, leb-false, le-leb, and_from, or_from, or_left, or_right}
 use Rattle.std.proofs.lemmas.List.Sorted.{searched}
+use Rattle.zr_lists.proofs.Parts.{and_left, and_right}
 use Rattle.zr_pend_numbers.specs.Numbers.{is_in, rises}
-use Rattle.zr_pend_spec.proofs.Parts.{and_left, and_right}
 
 -- ---- how fast they rise
 
@@ -172,7 +172,7 @@ put_again ms n j h = by (n == j) refl
 
 -- ---- one less
 
-lower : (low m : ℕ) (ms : List ℕ) → low ≤ m → rises m ms ≡ true → rises low ms ≡ true
+pub lower : (low m : ℕ) (ms : List ℕ) → low ≤ m → rises m ms ≡ true → rises low ms ≡ true
 lower low m [] le h = refl
 lower low m (n ∷ ns) le h = and_from _ _ (le-leb low n (omega (arith, leb-true m n (and_left _ _ h)))) (and_right _ _ h)
 

@@ -11,12 +11,12 @@ use Rattle.zr_pend_spec.specs.Row.{RowState, has, is_asked_by, is_branch, is_don
 use Rattle.zr_pend_spec.specs.Pending.{IsSound, all_finished, all_orphaned, are_distinct, asked, askers_differ, branch, branches, branches_on, count, dropped, final_to, finals, finals_of_drop, finished, is_pending}
 use Rattle.zr_pend_numbers.specs.Numbers.{Uses, is_in, is_used, rises, used_on}
 use Rattle.zr_pend_numbers.proofs.InUse.{same_used}
+use Rattle.zr_lists.proofs.Parts.{and_left, and_right}
 use Rattle.zr_pend_rows.specs.Tied.{AreAsked, as_asker, as_branch}
 use Rattle.zr_pend_spec.proofs.Branches.{distinct_apart, distinct_behind}
 use Rattle.zr_pend_spec.proofs.Dropped.{in_order}
 use Rattle.zr_pend_spec.proofs.OneEnd.{done_is_last}
 use Rattle.zr_pend_spec.proofs.OneRow.{none_last, row_stays, rows_stay}
-use Rattle.zr_pend_spec.proofs.Parts.{and_left, and_right}
 use Rattle.zr_pend_spec.proofs.Readings.{alone}
 use Rattle.zr_pend_spec.proofs.Sound.{all_orphaned_sound, any_branch, finished_sound}
 use Rattle.zr_pend_rows.proofs.OnLinks.{differs, in_order_by}

@@ -9,8 +9,8 @@ use Rattle.zr_id.specs.declared.link.LinkNo.{LinkNo}
 use Rattle.zr_pend_spec.specs.declared.branch.Branch.{Branch}
 use Rattle.zr_pend_spec.specs.Row.{RowState, is_branch, has, is_last, is_done, without}
 use Rattle.zr_pend_spec.specs.Pending.{IsSound, all_finished, all_orphaned, are_distinct, asker_of, branches, final_to, finals, is_pending}
+use Rattle.zr_lists.proofs.Parts.{and_left, and_right, left_false, right_false}
 use Rattle.zr_pend_rows.specs.Ending.{all_ended, ended, finals_among, left}
-use Rattle.zr_pend_spec.proofs.Parts.{and_left, and_right, left_false, right_false}
 use Rattle.zr_pend_spec.proofs.Branches.{distinct_filtered}
 use Rattle.zr_pend_spec.proofs.OneEnd.{final_by, other, split}
 use Rattle.zr_pend_spec.proofs.OneRow.{alone_by, not_done, of_one_row, none_found, row_stays}

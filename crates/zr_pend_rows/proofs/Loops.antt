@@ -8,8 +8,8 @@ use Rattle.zr_pend_spec.specs.declared.branch.Asker.{Asker}
 use Rattle.zr_pend_spec.specs.declared.branch.Branch.{Branch}
 use Rattle.zr_pend_spec.specs.Row.{RowState}
 use Rattle.zr_pend_spec.specs.Pending.{branch, free_number, opened, final_to}
+use Rattle.zr_lists.proofs.Parts.{right_false}
 use Rattle.zr_pend_rows.specs.Ending.{all_ended, ended, finals_among}
-use Rattle.zr_pend_spec.proofs.Parts.{right_false}
 
 -- the branch of one link more is opened
 pub opened_more : (rows : List RowState) (to : List LinkNo) (i : ℕ) (d : LinkNo) (bs news : List Branch) (n : ℕ) → i < length to → n ≡ free_number (get_or to i d) rows →

@@ -12,12 +12,12 @@ use Rattle.zr_pend_spec.specs.Row.{RowState, has, is_branch, numbers_of}
 use Rattle.zr_pend_spec.specs.Pending.{IsSound, are_distinct, ascending, branch, branches, dropped, finished, free_number, is_pending, numbers_on, opened, placed}
 use Rattle.zr_pend_numbers.specs.Numbers.{Uses, is_in, is_used, rises, used_on}
 use Rattle.zr_pend_rows.specs.Tied.{ArePending}
-use Rattle.zr_pend_numbers.proofs.Rising.{not_in}
-use Rattle.zr_pend_spec.proofs.Parts.{and_left, and_right, left_false, right_false}
-use Rattle.zr_pend_spec.proofs.Dropped.{gone, in_order}
+use Rattle.zr_pend_numbers.proofs.Rising.{not_in, lower}
+use Rattle.zr_pend_spec.proofs.Dropped.{gone, in_order, is_branch_to}
 use Rattle.zr_pend_spec.proofs.Free.{free_is_least, pending_is_in}
 use Rattle.zr_pend_spec.proofs.Sound.{any_branch, finished_branches}
 use Rattle.zr_lists.proofs.Truths.{or_swap}
+use Rattle.zr_lists.proofs.Parts.{and_left, and_right, left_false, right_false}
 
 -- ---- what the calls make of them
 
@@ -43,17 +43,11 @@ branch_turned b c = ap (λ t. t && c.number == b.number) (turned c.link.0 b.link
         by true e = sym (eq-eqb n m (sym (eqb-true m n e)))
         by false e = sym (false_from_ne_true _ (λ q. absurd (omega (arith, eqb-false m n e, eqb-true n m q))))
 
-same_branch : (b c k : Branch) → is_branch c k ≡ true → is_branch b k ≡ is_branch b c
-same_branch b c k h =
-    let e : k.link.0 ≡ c.link.0 = eqb-true _ _ (and_left _ _ h) in
-    let f : k.number ≡ c.number = eqb-true _ _ (and_right _ _ h) in
-    rw (e, f) refl
-
 one_left : (rows : List RowState) (b c : Branch) → is_pending c (finished rows b) ≡ (not (is_branch c b) && is_pending c rows)
 one_left rows b c =
     sym (any_branch c (finished rows b))
     ∙ ap (λ bs. list_any (λ k. is_branch c k) bs) (finished_branches rows b)
-    ∙ any-filter_same (λ k. is_branch c k) (λ k. not (is_branch b k)) (not (is_branch b c)) (λ k h. ap (λ t. not t) (same_branch b c k h)) (branches rows)
+    ∙ any-filter_same (λ k. is_branch c k) (λ k. not (is_branch b k)) (not (is_branch b c)) (λ k h. ap (λ t. not t) (is_branch_to b c k h)) (branches rows)
     ∙ ap (λ t. not (is_branch b c) && t) (any_branch c rows)
     ∙ ap (λ t. not t && is_pending c rows) (branch_turned b c)
 
@@ -69,10 +63,6 @@ pending_dropped uses news rows link e h c = e c ∙ by (c.link.0 == link.0) refl
     by false q = h c ∙ sym ((gone link rows).others c q)
 
 -- ---- two ascending lists of the same numbers are one
-
-rises_low : (low m : ℕ) (ms : List ℕ) → low ≤ m → rises m ms ≡ true → rises low ms ≡ true
-rises_low low m [] le h = refl
-rises_low low m (n ∷ ns) le h = and_from _ _ (le-leb low n (omega (arith, leb-true m n (and_left _ _ h)))) (and_right _ _ h)
 
 in_other : (m n : ℕ) (ms : List ℕ) → is_in m (n ∷ ms) ≡ true → (n ≡ m → ⊥) → is_in m ms ≡ true
 in_other m n ms h apart = by (n == m) refl h
@@ -99,7 +89,7 @@ same_list low (m ∷ ms) (n ∷ ns) h k e =
     let le : m ≤ n = least m n ms (and_right _ _ h) (e n ∙ is_first n ns) in
     let ge : n ≤ m = least n m ns (and_right _ _ k) (sym (e m) ∙ is_first m ms) in
     let one : m ≡ n = omega (arith, le, ge) in
-    ap (λ z. z ∷ ms) one ∙ ap (λ z. n ∷ z) (same_list (m + 1) ms ns (and_right _ _ h) (rises_low (m + 1) (n + 1) ns (omega (arith, one)) (and_right _ _ k)) (rest one))
+    ap (λ z. z ∷ ms) one ∙ ap (λ z. n ∷ z) (same_list (m + 1) ms ns (and_right _ _ h) (lower (m + 1) (n + 1) ns (omega (arith, one)) (and_right _ _ k)) (rest one))
   where
     least : (a b : ℕ) (xs : List ℕ) → rises (a + 1) xs ≡ true → is_in b (a ∷ xs) ≡ true → a ≤ b
     least a b xs up q = at (a == b) refl

@@ -7,6 +7,7 @@ use Rattle.std.proofs.lemmas.Bool.{false_from_ne_true, not-true, not_from_false,
 use Rattle.std.proofs.lemmas.Grind.{fold-append}
 use Rattle.std.proofs.lemmas.List.Folds.{list_all-append}
 use Rattle.zr_lists.proofs.Filters.{find_filter_kept}
+use Rattle.zr_lists.proofs.Parts.{and_left, and_right}
 use Rattle.zr_id.specs.declared.link.LinkNo.{LinkNo}
 use Rattle.zr_msg.specs.declared.content.Parts.{Parts}
 use Rattle.zr_pend_spec.specs.declared.branch.Asker.{Asker}
@@ -15,7 +16,6 @@ use Rattle.zr_pend_spec.specs.Held.{GatheringState, after_final_to, are_apart, b
 use Rattle.zr_pend_spec.specs.Row.{RowState, has, is_asked_by, is_done, is_last, without}
 use Rattle.zr_pend_spec.specs.Pending.{IsSound, all_finished, all_orphaned, are_distinct, asked, askers_differ, begun, branches, branches_on, dropped, final_to, finals, finals_of_drop, finished, is_pending}
 use Rattle.zr_pend_spec.specs.Readings.{new_row}
-use Rattle.zr_pend_spec.proofs.Parts.{and_left, and_right}
 use Rattle.zr_pend_spec.proofs.Branches.{distinct_apart, distinct_behind}
 use Rattle.zr_pend_spec.proofs.Sound.{all_orphaned_sound, any_branch, asked_left, finished_sound}
 use Rattle.zr_pend_spec.proofs.OneRow.{none_last, row_stays}

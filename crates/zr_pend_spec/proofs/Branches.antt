@@ -3,10 +3,10 @@ use Rattle.std.proofs.Common.{◌≡◌, ◌||◌, Bool, true, false, cond, List
 use Rattle.std.specs.List.{list_any}
 use Rattle.std.proofs.lemmas.Bool.{eqb-true, eq-eqb, false_from_ne_true, and_from, or_from, or_left, or_right, not-true, not_from_false}
 use Rattle.std.proofs.lemmas.List.Folds.{list_any-append}
+use Rattle.zr_lists.proofs.Parts.{and_left, and_right, left_false, right_false}
 use Rattle.zr_pend_spec.specs.declared.branch.Branch.{Branch}
 use Rattle.zr_pend_spec.specs.Row.{is_branch}
 use Rattle.zr_pend_spec.specs.Pending.{are_distinct}
-use Rattle.zr_pend_spec.proofs.Parts.{and_left, and_right, left_false, right_false}
 
 pub is_branch_itself : (x : Branch) → is_branch x x ≡ true
 is_branch_itself x = and_from _ _ (eq-eqb x.link.0 x.link.0 refl) (eq-eqb x.number x.number refl)

@@ -9,10 +9,10 @@ use Rattle.zr_pend_spec.specs.declared.branch.Branch.{Branch}
 use Rattle.zr_pend_spec.specs.Laws.{IsGone, IsInOrder, ascends}
 use Rattle.zr_pend_spec.specs.Row.{RowState, is_branch, is_done, is_of, without}
 use Rattle.zr_pend_spec.specs.Pending.{is_pending, branch, branches, branches_on, numbers_on, finished, all_finished, all_orphaned, dropped, count, placed, ascending}
-use Rattle.zr_pend_spec.proofs.Parts.{and_left, and_right, left_false, right_false}
 use Rattle.zr_pend_spec.proofs.Free.{is_in, pending_is_in}
 use Rattle.zr_pend_spec.proofs.Sound.{any_branch, finished_branches, all_orphaned_branches}
 use Rattle.zr_lists.proofs.Truths.{or_swap}
+use Rattle.zr_lists.proofs.Parts.{and_left, and_right, left_false, right_false}
 
 -- ---- numbers in order
 
@@ -85,7 +85,7 @@ in_order ns = record {
 
 -- ---- branches that have ended
 
-is_branch_to : (b c k : Branch) → is_branch c k ≡ true → is_branch b k ≡ is_branch b c
+pub is_branch_to : (b c k : Branch) → is_branch c k ≡ true → is_branch b k ≡ is_branch b c
 is_branch_to b c k h =
     let e : k.link.0 ≡ c.link.0 = eqb-true _ _ (and_left _ _ h) in
     let f : k.number ≡ c.number = eqb-true _ _ (and_right _ _ h) in

@@ -11,6 +11,8 @@ use Rattle.std.proofs.lemmas.List.Sums.{sum_by-cons}
 use Rattle.zr_lists.proofs.Filters.{find_filter_kept}
 use Rattle.zr_lists.proofs.Numbers.{same_number}
 use Rattle.zr_lists.proofs.Order.{name_order}
+use Rattle.zr_lists.proofs.Sums.{put_sum_le}
+use Rattle.zr_lists.proofs.Parts.{and_left, and_right, left_false, right_false}
 use Rattle.zr_body.specs.Latest.{is_later}
 use Rattle.zr_pend_spec.specs.declared.branch.Asker.{Asker}
 use Rattle.zr_pend_spec.specs.declared.branch.Branch.{Branch}
@@ -18,8 +20,6 @@ use Rattle.zr_pend_spec.specs.Pending.{asker_of}
 use Rattle.zr_pend_spec.specs.Row.{RowState}
 use Rattle.zr_msg.specs.declared.content.Parts.{Parts}
 use Rattle.zr_pend_spec.specs.Held.{AreByKey, GatheringState, after_reply, are_apart, ending, gatherer, gathering_begun, gathering_weight, gatherings_at, gatherings_differ, gatherings_with, gatherings_without, gathers_for, has_room, held_at_branch, held_for, held_if, held_of, held_weight, held_with, is_asker, is_for, most_held, put_reply, regathered, reply_weight, takes_place}
-use Rattle.zr_pend_spec.proofs.Sums.{put_sum_le}
-use Rattle.zr_pend_spec.proofs.Parts.{and_left, and_right, left_false, right_false}
 
 pub by_key_none : AreByKey []
 unfolding IsStrictlySortedBy

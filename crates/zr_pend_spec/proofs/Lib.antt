@@ -1,4 +1,3 @@
-pub mod Parts
 pub mod Free
 pub mod Branches
 pub mod Sound
@@ -7,7 +6,6 @@ pub mod Dropped
 pub mod Readings
 pub mod ReadingsOfDrop
 pub mod OneEnd
-pub mod Sums
 pub mod Gathered
 pub mod Askers
 pub mod Best

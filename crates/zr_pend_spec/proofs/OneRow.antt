@@ -8,12 +8,12 @@ use Rattle.std.proofs.lemmas.Grind.{flat_map-append}
 use Rattle.std.proofs.lemmas.List.{map-append}
 use Rattle.std.proofs.lemmas.List.Elements.{filter-append}
 use Rattle.std.proofs.lemmas.List.Folds.{list_any-append, list_all-append}
+use Rattle.zr_lists.proofs.Parts.{and_left, and_right, left_false, right_false}
 use Rattle.zr_pend_spec.specs.declared.branch.Asker.{Asker}
 use Rattle.zr_pend_spec.specs.declared.branch.Branch.{Branch}
 use Rattle.zr_pend_spec.specs.Laws.{rest_of, IsOfRow, IsEnded}
 use Rattle.zr_pend_spec.specs.Row.{RowState, is_branch, has, is_last, is_done, without}
 use Rattle.zr_pend_spec.specs.Pending.{is_pending, branches, are_distinct, IsSound, final_to, finished, all_finished, finals}
-use Rattle.zr_pend_spec.proofs.Parts.{and_left, and_right, left_false, right_false}
 use Rattle.zr_pend_spec.proofs.Branches.{is_branch_itself, distinct_behind, distinct_apart, distinct_apart_back}
 use Rattle.zr_pend_spec.proofs.Sound.{any_branch, finished_sound}
 

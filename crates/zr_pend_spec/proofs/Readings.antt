@@ -7,12 +7,12 @@ use Rattle.std.proofs.lemmas.Bool.{eqb-true, eq-eqb, false_from_ne_true, false�
 use Rattle.std.proofs.lemmas.Grind.{flat_map-append}
 use Rattle.std.proofs.lemmas.List.Folds.{list_any-append}
 use Rattle.zr_id.specs.declared.link.LinkNo.{LinkNo}
+use Rattle.zr_lists.proofs.Parts.{and_left, and_right}
 use Rattle.zr_pend_spec.specs.declared.branch.Asker.{Asker}
 use Rattle.zr_pend_spec.specs.declared.branch.Branch.{Branch}
 use Rattle.zr_pend_spec.specs.Readings.{back, row_of, new_row, but_for, final_if_none, IsBegun, IsFinished}
 use Rattle.zr_pend_spec.specs.Row.{RowState, is_branch, has, is_last, is_done, is_asked_by, numbers_of, without}
 use Rattle.zr_pend_spec.specs.Pending.{asked, askers_differ, is_pending, branch, branches, are_distinct, numbers_on, opened, begun, differ, finished, final_to, free_number, IsSound}
-use Rattle.zr_pend_spec.proofs.Parts.{and_left, and_right}
 use Rattle.zr_pend_spec.proofs.Branches.{is_branch_alike, distinct_apart, distinct_behind}
 use Rattle.zr_pend_spec.proofs.Sound.{any_branch, free_of_number}
 use Rattle.zr_pend_spec.proofs.OneRow.{none_last}
@@ -206,7 +206,7 @@ in_row (r ∷ rows) b a s e = by (has b r) refl (is_asked_by a r) refl e (in_row
     by false et true eu k ih = absurd (false≢true (sym (alone r rows a s eu) ∙ back_asked rows b a k))
     by false et false eu k ih = ih k
 
-no_row : (a : Asker) (rows : List RowState) → asked a rows ≡ false → row_of a rows ≡ []
+pub no_row : (a : Asker) (rows : List RowState) → asked a rows ≡ false → row_of a rows ≡ []
 no_row a [] e = refl
 no_row a (r ∷ rows) e = by (is_asked_by a r) e (no_row a rows)
   where

@@ -4,12 +4,12 @@ use Rattle.std.specs.List.{list_any, list_all, find}
 use Rattle.std.specs.Option.{option_map, option_map_or}
 use Rattle.std.proofs.lemmas.Bool.{eqb-true, eq-eqb, false≢true, or_left, or_right}
 use Rattle.zr_id.specs.declared.link.LinkNo.{LinkNo}
+use Rattle.zr_lists.proofs.Parts.{and_left, and_right}
 use Rattle.zr_pend_spec.specs.declared.branch.Asker.{Asker}
 use Rattle.zr_pend_spec.specs.declared.branch.Branch.{Branch}
 use Rattle.zr_pend_spec.specs.Readings.{back, row_of, but_link, off_link, IsDropped}
 use Rattle.zr_pend_spec.specs.Row.{RowState, is_branch, has, is_done, is_of, is_asked_by, orphaned}
 use Rattle.zr_pend_spec.specs.Pending.{asked, askers_differ, is_pending, branch, branches_on, numbers_on, ascending, finished, all_finished, all_orphaned, dropped, IsSound}
-use Rattle.zr_pend_spec.proofs.Parts.{and_left, and_right}
 use Rattle.zr_pend_spec.proofs.Branches.{is_branch_itself}
 use Rattle.zr_pend_spec.proofs.Free.{is_in, pending_is_in}
 use Rattle.zr_pend_spec.proofs.Sound.{orphaned_branches, askers_left, askers_orphaned, dropped_sound}

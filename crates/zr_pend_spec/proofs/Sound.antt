@@ -7,12 +7,12 @@ use Rattle.std.proofs.lemmas.Grind.{flat_map-append}
 use Rattle.std.proofs.lemmas.List.Elements.{filter-append}
 use Rattle.std.proofs.lemmas.List.Folds.{list_any-append, list_all-append}
 use Rattle.zr_lists.proofs.Tests.{all_of_filter}
+use Rattle.zr_lists.proofs.Parts.{and_left, and_right, left_false, right_false}
 use Rattle.zr_id.specs.declared.link.LinkNo.{LinkNo}
 use Rattle.zr_pend_spec.specs.declared.branch.Asker.{Asker}
 use Rattle.zr_pend_spec.specs.declared.branch.Branch.{Branch}
 use Rattle.zr_pend_spec.specs.Row.{RowState, is_branch, has, is_done, is_of, is_asked_by, without, orphaned}
 use Rattle.zr_pend_spec.specs.Pending.{asked, askers_differ, is_pending, branch, branches, are_distinct, IsSound, free_number, opened, begun, differ, finished, all_finished, all_orphaned, dropped, branches_on}
-use Rattle.zr_pend_spec.proofs.Parts.{and_left, and_right, left_false, right_false}
 use Rattle.zr_pend_spec.proofs.Branches.{any_alike, distinct_filtered, distinct_joined}
 use Rattle.zr_pend_spec.proofs.Free.{free_is_free}
 

@@ -20,7 +20,7 @@ use zr_node_spec::tables::TablesView;
 /// there once it pays.
 ///
 /// They are kept true by those who change what was declared: what stands at a place is taken before it changes, and what stands there
-/// then is put. None of this fails for want of memory.
+/// then is put. None of this fails for lack of memory.
 #[derive(Drop)]
 pub struct Holders {
     subscribers: KindIndex,

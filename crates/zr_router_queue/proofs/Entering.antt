@@ -15,11 +15,12 @@ use Rattle.zr_frame.specs.Outbox.{OutboxState}
 use Rattle.zr_frame.specs.Packing.{packed}
 use Rattle.zr_frame_pack.specs.Packing.{parcels_of}
 use Rattle.zr_port.specs.declared.entry.Entry.{Entry}
+use Rattle.zr_lists.proofs.Tests.{any_mapped}
 use Rattle.zr_router_queue.specs.Tables.{Tables, replay, queues_at, queued_by, queue_of, is_among, is_droppable, is_other, slots_of, open_queues}
 use Rattle.zr_router_queue.specs.History.{may_come, has_parts, is_over, may_lack, queue_passes, may_be_dropped, may_be_closed, may_follow, is_legal}
 use Rattle.zr_router_queue.specs.Ends.{PlanState, EndState, IsEntered, IsNamed, IsPlan, IsPlanned, IsPlannedFor, IsSettled, MayEnter, is_closing, is_dropped, lacks_room}
 use Rattle.zr_router_queue.proofs.InStep.{and_both, distinct_at, distinct_queues, number}
-use Rattle.zr_router_queue.proofs.Lookups.{AreDistinct, all_kept, any_mapped, distinct_filter, distinct_unmap, each_among, each_both, each_found, each_kept, each_mapped, each_so}
+use Rattle.zr_router_queue.proofs.Lookups.{AreDistinct, all_kept, distinct_filter, distinct_unmap, each_among, each_both, each_found, each_kept, each_mapped, each_so}
 use Rattle.zr_router_queue.specs.Grows.{keeps_link, queue_after}
 use Rattle.zr_router_queue.proofs.Replays.{legal_more, open_after, replays_more}
 use Rattle.zr_router_queue.proofs.Named.{named_too}

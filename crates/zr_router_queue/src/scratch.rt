@@ -4,12 +4,10 @@ ghost use Rattle.std.specs.Prelude.{◌≡◌, IfOk, OnOk, length};
 ghost use Rattle.zr_net.specs.Writing.{writes_front};
 
 use std::alloc::{AllocError, Global};
+use zr_frame_pack::FEW_BYTES;
 use zr_msg::msg::Msg;
 use zr_net::write_front;
 use zr_ring::MOST_HEAD;
-
-/// Room for what stands before the extensions of most messages with their whole keys.
-const FEW_BYTES: usize = 128;
 
 /// The most bytes of a front that a parcel takes in its head: the header, the id and the number of a message have no more.
 pub(crate) const MOST_FRONT: usize = 9;

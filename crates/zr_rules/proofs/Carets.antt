@@ -16,6 +16,7 @@ use Rattle.zr_access.specs.declared.policy.Act.{Act}
 use Rattle.zr_access.specs.declared.fault.PolicyFault.{PolicyFault}
 use Rattle.zr_access.specs.declared.fault.PolicyFault.TheVariants.{BadWords, BadKey}
 use Rattle.zr_caret.specs.Shown.{place_of_word}
+use Rattle.zr_lists.proofs.Truths.{then_of, else_of}
 use Rattle.zr_rules.specs.Explained.{bad_default, bad_rule, bad_word, is_client, is_verb, place_of_bytes, place_of_words}
 use Rattle.zr_rules.specs.Carets.{AreRight, CaretsAreUnderWrongWords, CaretsAreUnderWrongKeys, IsCaretUnder, IsMissing, IsWrong, NoneHas}
 
@@ -89,14 +90,6 @@ taken_key : {B : Type 0} (r : Result (List ℕ) PolicyFault) (f : List ℕ → R
 taken_key (Ok text) f takes is refused = let taken = sym (takes text).1 ∙ refused in cc
 taken_key (Err e) f takes (inl (text, is)) refused = cc
 taken_key (Err e) f takes (inr is) refused = let key : e ≡ BadKey = cc in let words : e ≡ BadWords = cc in let both = sym key ∙ words in cc
-
-then_of : {X : Type 0} (b : Bool) (x y : X) → b ≡ true → (if b then x else y) ≡ x
-then_of true x y is = refl
-then_of false x y is = absurd (true≢false (sym is))
-
-else_of : {X : Type 0} (b : Bool) (x y : X) → b ≡ false → (if b then x else y) ≡ y
-else_of true x y is = absurd (true≢false is)
-else_of false x y is = refl
 
 -- ---- lines
 

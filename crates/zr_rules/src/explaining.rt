@@ -6,13 +6,10 @@ ghost use Rattle.zr_access.specs.Text.{is_readable, is_space, is_word, words};
 ghost use Rattle.zr_rules.specs.Explained.{bad_default, bad_rule, bad_word, cause, explanation, is_client, is_verb, line_at, place, place_of_bytes, place_of_space};
 
 use std::alloc::{AllocError, Global};
-use zr_access::PolicyFault;
+use zr_access::{MOST_LINE, PolicyFault};
 use zr_caret::{place_of_word, put_caret, put_shown};
 use zr_id::zid::Zid;
 use zr_lists::cut;
-
-/// How many bytes a line has at most, without its end.
-const MOST_LINE: usize = 4096;
 
 /// Appends the line as it was read, a caret under what is wrong, and what is expected there.
 pub(crate) fn put_explanation(

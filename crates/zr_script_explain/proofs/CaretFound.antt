@@ -6,10 +6,11 @@ use Rattle.zr_script_spec.specs.declared.command.Command.{Command}
 use Rattle.zr_script_spec.specs.declared.error.ScriptError.TheVariants.{BadWords}
 use Rattle.zr_script_spec.specs.Command.{by_name, by_words, get_line, interest_line, link_line, reply_line}
 use Rattle.zr_script_spec.specs.Words.{is_word, link_weight_at, zid_at}
+use Rattle.zr_lists.proofs.Truths.{then_of, else_of}
 use Rattle.zr_script_explain.specs.Forms.{word_at}
 use Rattle.zr_script_explain.specs.Places.{bad_word, is_count, is_kind, is_mode, is_name, is_target, is_weight}
 use Rattle.zr_script_explain.specs.Carets.{IsAtFaultBehind}
-use Rattle.zr_script_explain.proofs.CaretSteps.{a_name, a_time, a_weight, else_of, the_word, then_of}
+use Rattle.zr_script_explain.proofs.CaretSteps.{a_name, a_time, a_weight, the_word}
 use Rattle.zr_script_explain.proofs.CaretForms.{Form, IsWrong, one_name, one_wrong, one_right, one_number, count_wrong, count_right, two_names, names_wrong, names_then, names_right, name_number, numbered_wrong, numbered_then, numbered_right, nothing, name_key, keyed_wrong, keyed_right, name_key_more, put_wrong, put_right, name_number_key, declared_wrong, declared_then, declared_right}
 use Rattle.zr_script_explain.proofs.CaretLinks.{link_right, link_then, link_to_itself, link_to_some, link_weighs, link_wrong}
 use Rattle.zr_script_explain.proofs.CaretQueries.{get_latest, get_number, get_right, get_target, get_wrong, interest_aggregate, interest_kind, interest_mode, interest_number, interest_right, interest_wrong, reply_number, reply_right, reply_time, reply_wrong}

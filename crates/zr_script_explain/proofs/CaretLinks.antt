@@ -14,8 +14,9 @@ use Rattle.zr_script_spec.specs.declared.command.Command.TheVariants as c
 use Rattle.zr_script_spec.specs.declared.error.ScriptError.TheVariants.{BadWords}
 use Rattle.zr_script_spec.specs.Command.{link_line}
 use Rattle.zr_script_spec.specs.Words.{zid_at, link_weight_at}
+use Rattle.zr_lists.proofs.Truths.{then_of, else_of}
 use Rattle.zr_script_explain.specs.Places.{is_name, is_weight}
-use Rattle.zr_script_explain.proofs.CaretSteps.{ByWords, both_words, else_of, link_weight_step, name_step, no_link_weight, no_name, past, then_err, then_of, then_ok}
+use Rattle.zr_script_explain.proofs.CaretSteps.{ByWords, both_words, link_weight_step, name_step, no_link_weight, no_name, past, then_err, then_ok}
 use Rattle.zr_script_explain.proofs.CaretForms.{IsWrong, TooFew, TooMany}
 
 pub link_few : TooFew link_line 2

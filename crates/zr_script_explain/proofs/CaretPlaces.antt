@@ -10,9 +10,9 @@ use Rattle.std.proofs.lemmas.List.Sums.{fails_before_first}
 use Rattle.std.proofs.lemmas.Option.{same_Some, slice_get-get_or, slice_get_within}
 use Rattle.zr_caret.specs.Shown.{place_from, place_of_word}
 use Rattle.zr_script_spec.specs.Words.{is_clean, is_printable, is_space, words}
+use Rattle.zr_lists.proofs.Truths.{then_of, else_of}
 use Rattle.zr_script_explain.specs.Places.{odd_byte, place_of_byte, place_of_space}
 use Rattle.zr_script_explain.specs.Carets.{IsWrongByte}
-use Rattle.zr_script_explain.proofs.CaretSteps.{then_of, else_of}
 
 -- ---- behind the last word
 

@@ -11,6 +11,7 @@ use Rattle.zr_script_spec.specs.declared.error.ScriptError.{ScriptError}
 use Rattle.zr_script_spec.specs.declared.error.ScriptError.TheVariants.{BadWords, BadKey}
 use Rattle.zr_script_spec.specs.Step.{◌>>=◌}
 use Rattle.zr_script_spec.specs.Words.{is_word, is_there, zid_of_word, zid_at, number_at, time_at, weight_at, link_weight_at, target_at, mode_at, kinds_at, key_of_word, key_at, optional_key_at}
+use Rattle.zr_lists.proofs.Truths.{then_of, else_of}
 use Rattle.zr_script_explain.specs.Places.{is_count, is_kind, is_mode, is_name, is_target, is_weight}
 
 -- ---- steps
@@ -40,14 +41,6 @@ both_words (Err e) f (inr is) all = let same : e ≡ BadWords = cc in inr (ap (�
 
 pub right : {X : Type 0} (x : X) → ByWords {A = X} (Ok x)
 right x = inl (x, refl)
-
-pub then_of : {X : Type 0} (b : Bool) (x y : X) → b ≡ true → (if b then x else y) ≡ x
-then_of true x y is = refl
-then_of false x y is = absurd (true≢false (sym is))
-
-pub else_of : {X : Type 0} (b : Bool) (x y : X) → b ≡ false → (if b then x else y) ≡ y
-else_of true x y is = absurd (true≢false is)
-else_of false x y is = refl
 
 -- ---- one word
 

@@ -15,11 +15,12 @@ use Rattle.zr_script_spec.specs.Command.{by_last_name, by_later_name, by_name, b
 use Rattle.zr_script_spec.specs.Lines.{most_line}
 use Rattle.zr_body.specs.Payload.{put_body, del_body}
 use Rattle.zr_script_spec.specs.Words.{is_clean, is_word, key_at, payload_at, words}
+use Rattle.zr_lists.proofs.Truths.{then_of, else_of}
 use Rattle.zr_script_explain.specs.Forms.{key_number, most_behind, word_at, words_behind}
 use Rattle.zr_script_explain.specs.Places.{bad_word, has_all}
 use Rattle.zr_script_explain.specs.Carets.{CaretsAreUnderFaults, IsAtFault, IsAtFaultBehind, IsCaretUnder, IsWrongByte}
 use Rattle.zr_script_explain.proofs.CaretPlaces.{behind, stands, wrong_byte}
-use Rattle.zr_script_explain.proofs.CaretSteps.{ByWords, else_of, then_of}
+use Rattle.zr_script_explain.proofs.CaretSteps.{ByWords}
 use Rattle.zr_script_explain.proofs.CaretForms.{Form, IsWrong, OfKey, TooFew, TooMany, one_name, one_few, one_many, one_words, one_number, count_few, count_many, count_words, two_names, names_few, names_many, names_words, name_number, numbered_few, numbered_many, numbered_words, nothing, nothing_few, nothing_many, nothing_words, name_key, keyed_few, keyed_many, keyed_key, name_key_more, put_few, put_many, put_key, name_number_key, declared_few, declared_many, declared_key}
 use Rattle.zr_script_explain.proofs.CaretFound.{FirstOrSecond, IsFound, one_found, names_found, numbered_found, keyed_found, put_found, declared_found, nothing_found, count_found, link_found, get_found, reply_found, interest_found}
 use Rattle.zr_script_explain.proofs.CaretLinks.{link_few, link_many, link_words}

@@ -33,7 +33,7 @@ pub record Stood (first : Expected) (o : OpeningState) (s : SessionState) (bytes
   pub behind : s.confirmed ≡ true → (answered ≡ c.bytes ++ owed_in c.phase) × Owes (owed_in c.phase) c.phase
 
 -- what is owed by a session is what its course owes
-owed_is : (first : Expected) (o : OpeningState) (st : State) (kept bytes : List ℕ) (c : Course) → Stands first o st kept bytes c → owed_by st ≡ owed_in c.phase
+pub owed_is : (first : Expected) (o : OpeningState) (st : State) (kept bytes : List ℕ) (c : Course) → Stands first o st kept bytes c → owed_by st ≡ owed_in c.phase
 owed_is first o (Running p) kept bytes c h = ap owed_in (sym h.2)
 owed_is first o (Ended how owed) kept bytes c h = sym h.3
 owed_is first o Spent kept bytes c h = absurd h
@@ -43,7 +43,7 @@ some_owed : (p : Phase) → has_bytes (owed_in p) ≡ true → Owes (owed_in p) 
 some_owed (Opening expected) h = absurd cc
 some_owed (Established s) h = refl
 
-owes_is : (owed : List ℕ) (p : Phase) → Owes owed p → owed_in p ≡ owed
+pub owes_is : (owed : List ℕ) (p : Phase) → Owes owed p → owed_in p ≡ owed
 owes_is owed (Opening expected) h = absurd h
 owes_is owed (Established s) h = h
 
@@ -51,7 +51,7 @@ owes_same : (owed : List ℕ) (p : Phase) → Owes owed p → Owes (owed_in p) p
 owes_same owed (Opening expected) h = absurd h
 owes_same owed (Established s) h = refl
 
-comes_at : (first : Expected) (o : OpeningState) (st : State) (kept bytes : List ℕ) (c : Course) → Stands first o st kept bytes c →
+pub comes_at : (first : Expected) (o : OpeningState) (st : State) (kept bytes : List ℕ) (c : Course) → Stands first o st kept bytes c →
     (rest : List ℕ) × Comes o (Opening first) bytes c rest
 comes_at first o (Running p) kept bytes c h = (kept, h.0)
 comes_at first o (Ended how owed) kept bytes c h = (h.0, h.1)

@@ -2,9 +2,9 @@
 -- that they declare.
 use Rattle.std.proofs.Common.{◌≡◌, ◌∙◌, ap, refl, sym, subst, ℕ, suc, ◌+◌, ◌==◌, ◌<◌, ◌≤◌, inl, inr, Bool, true, false, cond, not, List, [], ◌∷◌, ◌++◌, length, length-append, append_assoc, append-nil, map, Option, Some, None, Ok, arith, ◌%◌, ◌/◌, ◌^◌}
 use Rattle.std.specs.Prelude.{nat_le, nat_lt, bit_and, if◌then◌else◌}
-use Rattle.std.specs.List.{AllByRecursion, sum_by}
+use Rattle.std.specs.List.{AllByRecursion}
 use Rattle.std.specs.Option.{option_or}
-use Rattle.std.proofs.lemmas.Bool.{and_parts, cases_lt, le-ltb, lt-ltb, leb-true, ltb-true}
+use Rattle.std.proofs.lemmas.Bool.{cases_lt, le-ltb, lt-ltb}
 use Rattle.std.proofs.lemmas.Bool.Decides.{nat_tests}
 use Rattle.std.proofs.lemmas.List.Sums.{sum_by_push}
 use Rattle.zr_lists.proofs.Each.{All-append}
@@ -19,6 +19,7 @@ use Rattle.zr_wirekey.specs.Scopes.{Texts, text_at, declared, bytes_of}
 use Rattle.zr_wirekey.specs.Writing.{writes_key, writes_name}
 use Rattle.zr_wirekey.proofs.Alike.{is_itself}
 use Rattle.zr_wirekey.proofs.Numbers.{number_after}
+use Rattle.zr_wirekey.proofs.Giving.{room_left}
 use Rattle.zr_msg.specs.declared.msg.Msg.{Msg}
 use Rattle.zr_msg.specs.declared.msg.Msg.TheVariants.{Sub, Unsub, Token, Untoken, Able, Unable, Interest, EndInterest, ToldSub, ToldAble, ToldUnsub, ToldToken, ToldUntoken, ToldUnable, ToldEnd, Push, Request, Response, Final, State, Step, Snap}
 use Rattle.zr_msg.specs.declared.peer.Role.{Role}
@@ -273,11 +274,6 @@ is_numbered law role (Step source number added decl) h text e = absurd cc
 is_numbered law role (Snap source number decls) h text e = absurd cc
 
 -- ---- the declaration of a number
-
-room_left : (names : NameList) (text : List ℕ) → has_room names text ≡ true → (length names < 4096) × (sum_by (λ t. length t) names + length text ≤ 1048576)
-room_left names text e =
-    let parts = and_parts (nat_lt (length names) 4096) (nat_le (sum_by (λ t. length t) names + length text) 1048576) e in
-    (ltb-true (length names) 4096 parts.0, leb-true (sum_by (λ t. length t) names + length text) 1048576 parts.1)
 
 pub more_names : (names : NameList) (text : List ℕ) → has_room names text ≡ true → AreNames (Some (names ++ text ∷ []))
 more_names names text e =

@@ -7,10 +7,11 @@ ghost use Rattle.zr_session.specs.Carried.{begins_network, begins_oam, between_r
 use std::alloc::Global;
 use zr_bytes::{Cursor, ReadError};
 use zr_decl::Declared;
+use zr_format_spec::header::ID;
 use zr_msg::msg::Msg;
 use zr_msg::peer::Role;
 use zr_net::read_net;
-use zr_oam::read_oam;
+use zr_oam::{OAM, read_oam};
 use zr_wirekey::Scopes;
 
 /// A network message, as it is read.
@@ -22,12 +23,8 @@ pub enum Carried {
     Network(Declared),
 }
 
-/// The id of a header, in its low five bits.
-const ID: u8 = 0x1F;
 /// The lowest id of a network message.
 const LOWEST: u8 = 0x19;
-/// The id of an OAM message.
-const OAM: u8 = 0x1F;
 
 /// Whether the next byte begins a network message, where a frame is open.
 pub(crate) fn begins_network(bytes: &[u8]) -> bool

@@ -6,23 +6,14 @@ use crate::phase::{Established, Phase};
 use crate::stop::ReadStop;
 use std::alloc::{AllocError, Global};
 use zr_bytes::{ByteString, Cursor, ReadError};
-use zr_decl::Declared;
+use zr_decl::{Declared, INTEREST};
 use zr_format_spec::header::{FIRST, ID};
 use zr_format_spec::read_extensions;
+use zr_net::{REQUEST, RESPONSE};
+use zr_oam::OAM;
 use zr_open::Reason;
 use zr_trans::{Trans, read_trans};
-use zr_wirekey::{Scopes, read_parts};
-
-/// Messages in which more than the header stands before the key.
-const INTEREST: u8 = 0x19;
-
-const RESPONSE: u8 = 0x1B;
-
-const REQUEST: u8 = 0x1C;
-
-const DECLARE: u8 = 0x1E;
-/// OAM messages, which spell keys otherwise.
-const OAM: u8 = 0x1F;
+use zr_wirekey::{DECLARE, Scopes, read_parts};
 
 /// How many bytes of a key are told at most.
 const MOST_KEY: usize = 100;

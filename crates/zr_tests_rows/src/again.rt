@@ -15,15 +15,12 @@ use zr_msg::extras::Extras;
 use zr_msg::msg::Msg;
 use zr_msg::peer::Role;
 use zr_net::read_net;
-use zr_oam::read_oam;
+use zr_oam::{OAM, read_oam};
 use zr_wire::write_message;
 use zr_wirekey::Scopes;
 
 /// How often a message is changed.
 const CHANGES: u32 = 300;
-
-/// What a message between routers begins with, in the bits of the id.
-const OAM: u8 = 0x1F;
 
 /// A message that was read: its fields, and what is written of it.
 type Found = (String, Vec<u8>);

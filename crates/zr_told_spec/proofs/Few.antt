@@ -13,6 +13,7 @@ use Rattle.std.proofs.lemmas.Map.Made.{length-le_from_is_member, is_some-lookup}
 use Rattle.std.proofs.lemmas.List.Folds.{list_any-append}
 use Rattle.zr_msg.specs.declared.decl.Decl.{Decl}
 use Rattle.zr_local.specs.declared.interest.Interest.{Interest}
+use Rattle.zr_lists.proofs.Parts.{and_right}
 use Rattle.zr_told_spec.specs.Laws.{FewAreWanted}
 use Rattle.zr_told_spec.specs.Place.{place_cmp, place_of, same}
 use Rattle.zr_told_spec.specs.Wanted.{asked, fits, told_as, wanted, wants}
@@ -30,10 +31,6 @@ own i = record { class = Subscriber; key = unwrap_or i.key [] } ∷ record { cla
 
 abbrev places : List Decl → List Place
 places ds = map (λ d. place_of d) ds
-
-second_part : (a b : Bool) → (a && b) ≡ true → b ≡ true
-second_part true b h = h
-second_part false b h = absurd (false≢true h)
 
 -- ---- where an interest is told of a place
 
@@ -66,7 +63,7 @@ asked_there i q (d ∷ ds) h = by (asked_there i q ds) (fits i (place_of d) && s
     put false false c k = k
 
     by : (asked ds i q ≡ true → (list_any (same q) (places ds) || list_any (same q) (own i)) ≡ true) → (s : Bool) → (fits i (place_of d) && same q (told_as i (place_of d))) ≡ s → (s || asked ds i q) ≡ true → ((same q (place_of d) || list_any (same q) (places ds)) || list_any (same q) (own i)) ≡ true
-    by ih true e k = put (same q (place_of d)) (list_any (same q) (places ds)) _ (there_or_own i (place_of d) q (second_part (fits i (place_of d)) _ e))
+    by ih true e k = put (same q (place_of d)) (list_any (same q) (places ds)) _ (there_or_own i (place_of d) q (and_right (fits i (place_of d)) _ e))
     by ih false e k = skip (same q (place_of d)) _ _ (ih k)
 
 -- ---- where several do

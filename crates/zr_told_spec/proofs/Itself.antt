@@ -5,9 +5,9 @@ use Rattle.std.proofs.lemmas.Bool.{false≢true, eq-eqb, and_parts}
 use Rattle.std.proofs.Math.Bool.{or-true}
 use Rattle.zr_key.specs.Expression.{Piece, Char, AnyChars, Chunk, Any, AnyChunks, Pieces, is_any_chars, is_piece, is_wild, begins_verbatim, is_chunk}
 use Rattle.zr_key.specs.Key.{expression_of, IsKeyText}
+use Rattle.zr_key.proofs.CanonForm.{all_chunks}
 use Rattle.zr_match.specs.Table.{Signs, table, same_char, piece_signs, pieces_compare, is_any_chunks, chunks_go_together, chunk_signs, texts_meet}
 use Rattle.zr_match.proofs.PieceTable.{list_all-reverse}
-use Rattle.zr_match.proofs.Right.{all_chunks}
 
 -- a gap more of the second pattern changes nothing where gaps expand
 gap_more : {X : Type 0} (s : Signs X) (y : X) → s.expands ≡ true → s.is_gap y ≡ true → s.is_open y ≡ true → (a b : List X) → table s a b ≡ true → table s a (y ∷ b) ≡ true

@@ -14,11 +14,11 @@ use Rattle.zr_netrun.specs.Clauses.{IsReported, IsSummedUp, OfRead, ReportsBefor
 use Rattle.zr_netrun.specs.Judged.{judged}
 use Rattle.zr_netrun.proofs.Asked.{reports_before_reads}
 use Rattle.zr_netrun.proofs.Reading.{as_before}
-use Rattle.zr_netrun_lines.proofs.Writing.{prefix_none}
 use Rattle.zr_link_job.specs.declared.job.ServeJob.{ServeJob}
 use Rattle.zr_serve_router.specs.Former.{Heard}
 use Rattle.zr_serve_router.specs.Space.{Opened, Refused}
 use Rattle.zr_outside.specs.declared.host.Call.{Call}
+use Rattle.zr_outside.proofs.Appending.{prefix_none}
 use Rattle.zr_serve.proofs.Served.{not_begun}
 use Rattle.zr_serve.specs.Serving.{Outputs}
 use Rattle.zr_serve.specs.declared.end.ServeEnd.TheVariants as end

@@ -12,13 +12,10 @@ use Rattle.clap.specs.declared.parser.matches.ArgMatches.{ArgMatches}
 use Rattle.clap.specs.declared.parser.matches.ArgMatches.TheViews.{out-ArgMatches}
 use Rattle.zr_dial.specs.Dial.{DialState, dial_of}
 use Rattle.zr_id.specs.Zid.{zid_of_hex}
+use Rattle.zr_lists.proofs.Parts.{and_right}
 use Rattle.zr_top_words.specs.Asked.{Served, dials_of, if_it_explains, served_as_named, served_by}
 
 -- ---- the builder
-
-second : (a b : Bool) → (a && b) ≡ true → b ≡ true
-second true b h = h
-second false b h = absurd (true≢false (sym h))
 
 is_off : (a b : Bool) → (not a && b) ≡ true → a ≡ false
 is_off true b h = absurd (true≢false (sym h))
@@ -34,7 +31,7 @@ pub adds_command : {old sub new : Command} {a : App} {s : Shape} → AddsSubcomm
     → app_of new ≡ with_subcommand a s
 adds_command {old} {sub} {new} {a} {s} h was is plain =
     let all : (shape_of sub).is_plain ≡ true = ap (λ (x : Shape). x.is_plain) is ∙ plain in
-    h.shape (is_off _ _ (second _ _ (second _ _ all))) ∙ ap₂ with_subcommand was is
+    h.shape (is_off _ _ (and_right _ _ (and_right _ _ all))) ∙ ap₂ with_subcommand was is
 
 -- ---- the subcommand that was met
 

@@ -1,14 +1,13 @@
 -- The records that make an edge make the edges that all make, so their trees are those of all.
-use Rattle.std.proofs.Common.{◌≡◌, ℕ, max, Bool, true, false, cond, List, [], ◌∷◌, Option, Some, None, refl, sym, ap, ◌∙◌, subst}
-use Rattle.std.specs.List.{filter, find}
+use Rattle.std.proofs.Common.{◌≡◌, ℕ, max, Bool, true, false, cond, List, Option, Some, None, refl, sym, ap, ◌∙◌, subst}
 use Rattle.std.specs.Option.{option_map_or}
 use Rattle.std.specs.Cmp.Lexicographic.{slice_cmp}
 use Rattle.std.specs.Ordering.{nat_cmp}
 use Rattle.std.proofs.lemmas.Bool.{false≢true, and_parts, and_from}
 use Rattle.std.proofs.lemmas.List.Kept.{IsStrictlySortedBy-filter}
-use Rattle.std.proofs.lemmas.Option.{same_Some}
 use Rattle.zr_lists.proofs.Finds.{In, any_in, in_any, find_in, in_filter, in_map, in_place}
 use Rattle.zr_lists.proofs.Sorted.{by_keys, keys_by}
+use Rattle.zr_lists.proofs.Filters.{find_filter_there}
 use Rattle.zr_id.specs.Record.{LinkedState, RecordState, linked_ids}
 use Rattle.zr_id.specs.Zid.{is_named}
 use Rattle.zr_graph.specs.Record.{ids, has, lists, record_of, has_edge, edge_weight, weight_given, weight_to, IsAscending}
@@ -23,20 +22,6 @@ use Rattle.zr_tree.proofs.Rows.{record_there}
 use Rattle.zr_tree.proofs.SameEdges.{same_trees}
 
 -- ---- what is found among some of a list
-
--- what a test finds is found among what another test keeps, if that keeps it
-found_kept : {X : Type 0} (p q : X → Bool) (xs : List X) (x : X) → find p xs ≡ Some x → q x ≡ true → find p (filter q xs) ≡ Some x
-found_kept p q [] x h k = h
-found_kept {X} p q (y ∷ ys) x h k = by (p y) refl (q y) refl h (found_kept p q ys x)
-  where
-    by : (a : Bool) → p y ≡ a → (b : Bool) → q y ≡ b → cond a (Some y) (find p ys) ≡ Some x → (find p ys ≡ Some x → q x ≡ true → find p (filter q ys) ≡ Some x) →
-        find p (cond b (y ∷ filter q ys) (filter q ys)) ≡ Some x
-    by true e true f g ih = ap (λ c. cond c (Some y) (find p (filter q ys))) e ∙ g
-    by true e false f g ih =
-        let s : y ≡ x = same_Some y x g in
-        absurd (false≢true (sym f ∙ ap q s ∙ k))
-    by false e true f g ih = ap (λ c. cond c (Some y) (find p (filter q ys))) e ∙ ih g k
-    by false e false f g ih = ih g k
 
 -- ---- the records that make an edge
 
@@ -63,7 +48,7 @@ module _ (rs : List RecordState) (up : IsAscending (ids rs)) where
     where
       by : (o : Option RecordState) → record_of rs x ≡ o → record_of (linked rs) x ≡ o
       by None e = absurd (false≢true (sym (ap (λ (o : Option RecordState). option_map_or (λ (z : RecordState). has (linked_ids z.links) y) o false) e) ∙ there))
-      by (Some r) e = found_kept (λ z. is_named z.id x) (makes_edge rs) rs r e (makes x y r e there back)
+      by (Some r) e = find_filter_there (λ z. is_named z.id x) (makes_edge rs) rs r e (makes x y r e there back)
 
   -- no other is
   listed_before : (x y : List ℕ) → lists (linked rs) x y ≡ true → lists rs x y ≡ true

@@ -5,4 +5,4 @@ mod roles;
 mod writing;
 
 pub use roles::admits;
-pub use writing::{key_in, write_message, write_numbered};
+pub use writing::{NO_NUMBER, key_in, write_message, write_numbered};

@@ -10,8 +10,8 @@ use zr_msg::msg::Msg;
 use zr_net::write_net;
 use zr_oam::write_oam;
 
-// The key of a message is written as whole text.
-const NO_NUMBER: u16 = 0;
+/// In place of a number: the key of a message is written as whole text.
+pub const NO_NUMBER: u16 = 0;
 
 /// Appends a message that has a spelling, in the one that is written, with its whole key. Where memory runs out nothing is appended.
 pub fn write_message(out: &mut Vec<u8>, msg: &Msg) -> Result<(), AllocError>

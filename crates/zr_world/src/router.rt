@@ -11,15 +11,13 @@ use std::alloc::{AllocError, Global};
 use std::marker::Model;
 use zr_id::link::LinkNo;
 use zr_id::zid::Zid;
+use zr_log_set::weight::MOST_WEIGHT;
 use zr_msg::error::NodeError;
 use zr_msg::event::Event;
 use zr_msg::msg::Msg;
 use zr_msg::peer::Peer;
 use zr_router_core::hub::Hub;
 use zr_script_spec::error::ScriptError;
-
-/// What all declarations and interests of one router's clients weigh together at most.
-const MOST_WEIGHT: u64 = 4_194_304;
 
 /// What a declaration or an interest weighs beside its key's text.
 const DECLARATION_WEIGHT: u64 = 16;

@@ -6,21 +6,18 @@ use Rattle.std.proofs.lemmas.List.{length-map, map-append, take_all, take_more}
 use Rattle.zr_world_spec.specs.World.{EndState, End, Ends, end_cmp}
 use Rattle.zr_world_spec.specs.Next.{can_handle, can_take}
 use Rattle.zr_law_fan.specs.Samples.{bare, emptied}
+use Rattle.zr_law_fan.proofs.Running.{keys_emptied}
 use Rattle.zr_world_ends.specs.Index.{has_mark, IsIndexed}
 use Rattle.zr_world_ends.proofs.Index.{none_behind}
 
 abbrev idle_of : End × EndState → End × EndState
 idle_of e = (e.0, bare e.1)
 
-idle_keys : (es : Ends) → keys_of (emptied es) ≡ keys_of es
-idle_keys [] = refl
-idle_keys (e ∷ es) = ap (λ l. e.0 ∷ l) (idle_keys es)
-
 idle_length : (es : Ends) → length (emptied es) ≡ length es
 idle_length es = length-map es idle_of
 
 pub idle_ordered : (es idle : Ends) → idle ≡ emptied es → IsStrictlySortedBy end_cmp (keys_of es) → IsStrictlySortedBy end_cmp (keys_of idle)
-idle_ordered es idle is h = subst (λ (z : Ends). IsStrictlySortedBy end_cmp (keys_of z)) (sym is) (subst (IsStrictlySortedBy end_cmp) (sym (idle_keys es)) h)
+idle_ordered es idle is h = subst (λ (z : Ends). IsStrictlySortedBy end_cmp (keys_of z)) (sym is) (subst (IsStrictlySortedBy end_cmp) (sym (keys_emptied es)) h)
 
 pub idle_room : (es idle : Ends) (words : List ℕ) → idle ≡ emptied es → length es ≤ 64 * length words → length idle ≤ 64 * length words
 idle_room es idle words is room = let same = ap (λ (z : Ends). length z) is in let long = idle_length es in omega (arith, same, long, room)

@@ -20,6 +20,7 @@ use Rattle.zr_world_gang.specs.declared.message.Waiting.{Waiting}
 use Rattle.zr_world_gang.specs.Shares.{ShareState, MayBeHandled, to_client, to_router, with_input, with_output}
 use Rattle.zr_law_rounds.specs.Rounds.{waits_in, waits, Weights, told_in, told_by}
 use Rattle.zr_law_rounds.specs.Told.{HasBegun, HaveCome, Stay, nothing, went, taken_weighs, went_weighs}
+use Rattle.zr_law_rounds.proofs.Beginning.{none_went}
 
 -- ---- one share
 
@@ -196,10 +197,6 @@ waits_one e all left more m ss ts us h front one = one_more (to_wait e) untold (
 
 pub all_wait : (e : End) (all left : List Tagged) (ss ts : List ShareState) → AreComing (to_wait e) untold all left ss ts → left ≡ [] → HaveCome (map (λ m. Handling e m) all) nothing ss ts
 all_wait e all left ss ts h none = all_come (to_wait e) untold all left ss ts h none
-
-none_went : (is_router : Bool) (e : End) → went is_router e [] ≡ []
-none_went true e = refl
-none_went false e = refl
 
 both_went : (is_router : Bool) (e : End) (xs ys : List Tagged) → went is_router e (xs ++ ys) ≡ went is_router e xs ++ went is_router e ys
 both_went true e xs ys = map-append (λ m. Handling (turned e) m) xs ys

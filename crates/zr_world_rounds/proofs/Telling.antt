@@ -9,7 +9,7 @@ use Rattle.zr_script_spec.specs.declared.report.FanSteps.{FanSteps}
 use Rattle.zr_script_spec.specs.declared.report.ReportLine.TheVariants.{Fanned}
 use Rattle.zr_world_spec.specs.Fan.{most_fan_steps}
 use Rattle.zr_world_gang.specs.Shares.{ShareState, is_behind, last_behind}
-use Rattle.zr_law_rounds.specs.Told.{HaveToldLines, IsTold, Stay, kinds_in, steps_in, told_of}
+use Rattle.zr_law_rounds.specs.Told.{HaveToldLines, IsTold, kinds_in, steps_in, told_of}
 use Rattle.zr_law_rounds.proofs.Parts.{AreJoined, joined_next}
 
 -- ---- how many
@@ -60,10 +60,6 @@ line_is ss ts lines kinds behind steps told texts is two one =
     let all = texts told.told ∙ ap concat told.lines in
     let same = steps_are ss kinds behind steps is two one in
     λ i. Fanned (all i) (same i) (is i)
-
--- the shares of the same routers stay so
-pub stays : (ss ts us : List ShareState) → Stay ss ts → Stay ts us → Stay ss us
-stays ss ts us h k = (k.0 ∙ h.0, k.1 ∙ h.1)
 
 -- what two clauses of a call say together of what it gives
 pub both_say : {X E : Type 0} (r : Result X E) (P Q R : X → Type 0) → ((x : X) → P x → Q x → R x) → IfOk r P → IfOk r Q → IfOk r R

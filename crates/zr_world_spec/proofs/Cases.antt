@@ -134,7 +134,7 @@ pub router_found : (o : Option RouterState) (r : RouterState) → router_at o �
 router_found None r h = absurd (false≢true (ap is_ok h))
 router_found (Some r') r h = cc
 
-client_found : (o : Option ClientState) (s : ClientState) → client_at o ≡ Ok s → o ≡ Some s
+pub client_found : (o : Option ClientState) (s : ClientState) → client_at o ≡ Ok s → o ≡ Some s
 client_found None s h = absurd (false≢true (ap is_ok h))
 client_found (Some s') s h = cc
 

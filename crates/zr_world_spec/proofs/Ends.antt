@@ -1,7 +1,7 @@
 -- Ends of links, and what a look-up of an end finds after each change of a world's ends: a replacement (`with_end`), a new end
 -- (`put_end`), a change where the end is there (`changed`), and messages that wait for a router's neighbours (`waiting`), as those that it has queued (`all_queued`). Each has its equation
 -- (`.._is`), what any reading of the end says then (`read_..`), and that a reading which the change does not touch says the same (`keep_..`).
-use Rattle.std.proofs.Common.{◌≡◌, ℕ, Bool, true, false, cond, List, Option, Some, None, refl, sym, ap, ◌∙◌, subst}
+use Rattle.std.proofs.Common.{◌≡◌, ℕ, Bool, true, false, cond, List, Option, Some, None, refl, sym, ap, ◌∙◌, subst, [], ◌∷◌}
 use Rattle.std.specs.Prelude.{◌&&◌, is_some}
 use Rattle.std.specs.List.{list_all}
 use Rattle.std.specs.Map.{keys_of}
@@ -11,13 +11,13 @@ use Rattle.std.specs.BTreeMap.{insert_entry}
 use Rattle.std.specs.Cmp.{IsEquivalence, IsTotalOrder, tied_then, then_total, on_total}
 use Rattle.std.specs.Cmp.Lexicographic.{slice_cmp, nat_list_cmp_total}
 use Rattle.std.specs.List.Sorted.{IsStrictlySortedBy}
-use Rattle.std.proofs.lemmas.Bool.{and_parts}
+use Rattle.std.proofs.lemmas.Bool.{and_parts, false≢true}
 use Rattle.std.proofs.lemmas.Map.{keys-set_value}
 use Rattle.zr_id.specs.Zid.{is_named}
 use Rattle.zr_msg.specs.declared.event.Event.{Event}
 use Rattle.zr_msg.specs.declared.msg.Msg.{Msg}
 use Rattle.zr_node_spec.specs.State.{NodeState}
-use Rattle.zr_world_spec.specs.World.{EndState, End, Ends, end_cmp, is_end, end_of, with_end, put_end, queued, changed}
+use Rattle.zr_world_spec.specs.World.{EndState, End, Ends, end_cmp, is_end, end_of, with_end, put_end, queued, changed, Tagged, is_empty}
 use Rattle.zr_world_spec.specs.Acts.{waiting, sends_to, all_queued}
 use Rattle.zr_world_spec.proofs.Keyed.{read_same, keys, lookup_set, lookup_insert, lookup_where, keys_where, sorted_insert, found_entry, entry_found, all_found}
 use Rattle.zr_lists.proofs.Finds.{In}
@@ -173,3 +173,8 @@ module _ (es : Ends) (x : List ℕ) (node : NodeState) (event : Event) (tag : �
 
   pub keys_all_queued : keys_of (all_queued es x node event tag) ≡ keys_of es
   keys_all_queued = keys_waiting es x (sends_to node event) tag
+
+-- where a test finds no message there is none
+pub none_there : (ts : List Tagged) → is_empty ts ≡ true → ts ≡ []
+none_there [] h = refl
+none_there (t ∷ ts) h = absurd (false≢true h)

@@ -52,7 +52,7 @@ pub ahead_at_start : (line steps : ℕ) (start : WorldState) → IsAhead line st
 ahead_at_start line steps start = record { comes = behind_nothing (ran line steps start); count = omega arith }
 
 -- the steps that are left, where one more is to be done
-one_more : (line left : ℕ) (now : WorldState) (step : Act) (x : List ReportLine × WorldState) → next now ≡ Some step → outcome now line step ≡ Ok x →
+pub one_more : (line left : ℕ) (now : WorldState) (step : Act) (x : List ReportLine × WorldState) → next now ≡ Some step → outcome now line step ≡ Ok x →
     run_steps line (suc left) now ≡ step ∷ run_steps line left x.1
 unfolding run_steps
 one_more line left now step x found done =

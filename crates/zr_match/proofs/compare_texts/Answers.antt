@@ -2,8 +2,8 @@ use Rattle.std.proofs.Common.{◌∙◌, sym, ap, nat_eq}
 use Rattle.std.specs.Cmp.Lexicographic.{pointwise}
 use Rattle.std.proofs.lemmas.Bool.{and_parts}
 use Rattle.zr_key.specs.Key.{expression_of, is_plain_text}
+use Rattle.zr_key.proofs.CanonForm.{all_chunks}
 use Rattle.zr_match.proofs.Plain.{keys_compare}
-use Rattle.zr_match.proofs.Right.{all_chunks}
 use Rattle.zr_match.proofs.compare_texts.Goals as goal
 
 pub returns-then-are_plain-clause-test : goal.returns-then-are_plain-clause-test

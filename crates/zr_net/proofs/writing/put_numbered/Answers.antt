@@ -1,7 +1,8 @@
 use Rattle.std.proofs.Common.{[], ◌∷◌}
 use Rattle.zr_bytes.specs.Number.{writes}
+use Rattle.zr_bytes.proofs.Fronts.{keeps_more}
 use Rattle.zr_net.specs.Writing.{writes_keyed, writes_content}
-use Rattle.zr_net.proofs.Fronts.{appends_both, appends_more, keeps_more}
+use Rattle.zr_net.proofs.Fronts.{appends_both, appends_more}
 use Rattle.zr_net.proofs.writing.put_numbered.Goals as goal
 
 pub returns-clause-ok : goal.returns-clause-ok

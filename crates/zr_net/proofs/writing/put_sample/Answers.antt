@@ -1,6 +1,7 @@
 use Rattle.std.proofs.Common.{[], ◌∷◌}
+use Rattle.zr_bytes.proofs.Fronts.{keeps_more}
 use Rattle.zr_net.specs.Writing.{writes_keyed, writes_content}
-use Rattle.zr_net.proofs.Fronts.{appends_more, keeps_more}
+use Rattle.zr_net.proofs.Fronts.{appends_more}
 use Rattle.zr_net.proofs.writing.put_sample.Goals as goal
 
 pub returns-clause-ok : goal.returns-clause-ok

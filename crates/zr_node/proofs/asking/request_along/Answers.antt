@@ -8,8 +8,9 @@ use Rattle.zr_push_sought.specs.declared.sought.Sought.{Sought}
 use Rattle.zr_query.specs.Asking.{IsRouteOf}
 use Rattle.zr_node_spec.specs.Samples.{tree_of}
 use Rattle.zr_node_spec.specs.Tables.{TableState, AreNumbered, link_at}
-use Rattle.zr_node.proofs.Retold.{nothing_told, all_told}
+use Rattle.zr_node.proofs.Retold.{all_told}
 use Rattle.zr_query.proofs.OnRoute.{route_differs}
+use Rattle.zr_query.proofs.Told.{nothing_yet}
 use Rattle.zr_node.proofs.Requests.{is_route}
 use Rattle.zr_node.proofs.asking.request_along.Goals as goal
 
@@ -92,7 +93,7 @@ returns-clause-room c = λ named at.
 pub returns-in_err-route-clause-prefix : goal.returns-in_err-route-clause-prefix
 returns-in_err-route-clause-prefix c = λ named at.
     let p = err_from_is_err_and c.from_residual.result c.from_residual.ensures.1 in
-    rw p.1 (nothing_told _ _)
+    rw p.1 (nothing_yet _ _)
 
 pub returns-in_err-remember-clause-prefix : goal.returns-in_err-remember-clause-prefix
 returns-in_err-remember-clause-prefix c = λ named at.

@@ -1,4 +1,5 @@
-use Rattle.zr_script.proofs.Fronts.{anyway, front_kept, kept_twice}
+use Rattle.zr_bytes.proofs.Fronts.{front_kept}
+use Rattle.zr_script.proofs.Fronts.{anyway, kept_twice}
 use Rattle.zr_script.proofs.message.put_others.Goals as goal
 
 pub returns-in_err-put_link-clause-err : goal.returns-in_err-put_link-clause-err

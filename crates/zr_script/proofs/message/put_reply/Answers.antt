@@ -1,4 +1,4 @@
-use Rattle.zr_script.proofs.Fronts.{keeps_more}
+use Rattle.zr_bytes.proofs.Fronts.{keeps_more}
 use Rattle.zr_script.proofs.message.put_reply.Goals as goal
 
 pub returns-clause-err : goal.returns-clause-err

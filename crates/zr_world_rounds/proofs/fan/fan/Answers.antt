@@ -2,11 +2,12 @@ use Rattle.std.proofs.Common.{◌≡◌, ◌≤◌, ℕ, List, [], ◌∷◌, �
 use Rattle.std.proofs.lemmas.List.{take_at}
 use Rattle.zr_law_fan.specs.Samples.{quieted}
 use Rattle.zr_law_rounds.specs.Told.{AreUnderWay, MayFan, Stay, steps_in, told_of}
+use Rattle.zr_law_rounds.proofs.Beginning.{stay_both}
 use Rattle.zr_world_gang.specs.Shares.{ShareState}
 use Rattle.zr_world_spec.specs.Fan.{most_fan_steps}
 use Rattle.zr_world_spec.specs.Next.{fan_done}
 use Rattle.zr_world_spec.specs.World.{WorldState}
-use Rattle.zr_world_rounds.proofs.Telling.{both_say, stays}
+use Rattle.zr_world_rounds.proofs.Telling.{both_say}
 use Rattle.zr_world_rounds.proofs.fan.fan.Goals as goal
 
 pub returns-clause-done : goal.returns-clause-done
@@ -34,5 +35,5 @@ returns-clause-stay g c =
     let begun = c.in_ok-begin_all.ensures.gone w (subst (λ (z : List ShareState). MayFan w z) (sym c.deref_mut.ensures.value) may) same in
     let gone = c.in_ok-shares.ensures.gone w (subst (λ (z : List ShareState). AreUnderWay w z) (sym back) begun) in
     let first = subst (λ (z : List ShareState). Stay z ss) c.deref_mut.ensures.value c.in_ok-begin_all.ensures.stay in
-    stays new ts x.1.items (stays new ss ts first (subst (λ (z : List ShareState). Stay z ts) back gone.1)) stay)
+    stay_both new ts x.1.items (stay_both new ss ts first (subst (λ (z : List ShareState). Stay z ts) back gone.1)) stay)
     c.told.ensures.line c.told.ensures.stay

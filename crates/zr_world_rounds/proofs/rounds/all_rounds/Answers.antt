@@ -6,7 +6,7 @@ use Rattle.zr_world_gang.specs.Shares.{ShareState, MayBeHandled}
 use Rattle.zr_world_gang.specs.Turns.{AllHaveDone}
 use Rattle.zr_law_rounds.specs.Rounds.{waits}
 use Rattle.zr_law_rounds.specs.Told.{AreUnderWay, HaveCome, Stay, nothing}
-use Rattle.zr_world_rounds.proofs.Telling.{stays}
+use Rattle.zr_law_rounds.proofs.Beginning.{stay_both}
 use Rattle.zr_world_rounds.proofs.rounds.all_rounds.Goals as goal
 
 pub loop-init : goal.loop-init
@@ -24,7 +24,7 @@ loop-preserved g c =
     λ w u.
     let one = c.loop.invariant w u in
     let two = c.round_goes.ensures w ss ts (c.pass_goes.ensures w old ss one.0 come) may done in
-    (two.0, stays c.args.shares.items ss ts (stays c.args.shares.items old ss one.1 come.stay) two.1)
+    (two.0, stay_both c.args.shares.items ss ts (stay_both c.args.shares.items old ss one.1 come.stay) two.1)
 
 pub returns-then-are_idle-clause-gone : goal.returns-then-are_idle-clause-gone
 returns-then-are_idle-clause-gone g c =
@@ -34,7 +34,7 @@ returns-then-are_idle-clause-gone g c =
     let come = subst (λ (z : List ShareState). HaveCome [] nothing z ss) c.deref_mut.ensures.value c.in_ok-pass_on.ensures in
     λ w u.
     let one = c.loop.invariant w u in
-    subst (λ (z : List ShareState). AreUnderWay w z × Stay c.args.shares.items z) (sym back) (c.pass_goes.ensures w old ss one.0 come, stays c.args.shares.items old ss one.1 come.stay)
+    subst (λ (z : List ShareState). AreUnderWay w z × Stay c.args.shares.items z) (sym back) (c.pass_goes.ensures w old ss one.0 come, stay_both c.args.shares.items old ss one.1 come.stay)
 
 pub returns-then-are_idle-clause-idle : goal.returns-then-are_idle-clause-idle
 returns-then-are_idle-clause-idle g c = ap waits (sym c.deref.ensures.value) ∙ c.are_idle.ensures.idle c.if-are_idle.true

@@ -1,9 +1,9 @@
 use Rattle.std.proofs.Common.{◌≡◌, ℕ, List, sym, ap, subst, ◌∙◌}
 use Rattle.zr_log.specs.Known.{position}
 use Rattle.zr_node_spec.specs.State.{NodeState}
+use Rattle.zr_query.proofs.Told.{nothing_yet}
 use Rattle.zr_node.specs.Steps.{asked_part}
 use Rattle.zr_node.proofs.Early.{change_late}
-use Rattle.zr_node.proofs.Retold.{nothing_told}
 use Rattle.zr_node.proofs.Rows.{asked_failed, judge_failed, rows_failed, rows_prefix, rows_told, rows_left, rows_allowed}
 use Rattle.zr_node.proofs.node.Node.change_rows.Goals as goal
 
@@ -31,4 +31,4 @@ returns c =
     }
 
 pub returns-then-not-has_room : goal.returns-then-not-has_room
-returns-then-not-has_room c = record { late = change_late c.args.self.now c.args.asked c.in_ok-changes.ensures.refused; sends = nothing_told (asked_part c.args.self.now c.args.asked).sends c.args.out.now.items }
+returns-then-not-has_room c = record { late = change_late c.args.self.now c.args.asked c.in_ok-changes.ensures.refused; sends = nothing_yet (asked_part c.args.self.now c.args.asked).sends c.args.out.now.items }
