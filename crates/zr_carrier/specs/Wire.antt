@@ -4,7 +4,7 @@ use Rattle.zr_msg.specs.declared.msg.Msg.{Msg}
 use Rattle.zr_msg.specs.declared.peer.Role.{Role}
 use Rattle.zr_msg.specs.declared.peer.Role.TheVariants.{Client, Router}
 use Rattle.zr_world_spec.specs.World.{is_end}
-use Rattle.zr_session.specs.Sending.{MayBeSent}
+use Rattle.zr_wire.specs.Sending.{MayBeSent}
 
 -- what who sends is, and the messages on the wire with their tags, the oldest first
 pub record Wire : Type 0 where

@@ -1,4 +1,3 @@
-pub mod Limits
 pub mod Turn
 pub mod Channel
 pub mod Channels

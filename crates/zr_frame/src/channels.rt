@@ -2,15 +2,15 @@
 
 ghost use Rattle.std.specs.Prelude.{◌≡◌, ◌<◌};
 ghost use Rattle.zr_frame.specs.Turn.{modulus_of};
-ghost use Rattle.zr_frame.specs.Limits.{most_of};
+ghost use Rattle.zr_wire.specs.Limits.{most_of};
 ghost use Rattle.zr_frame.specs.Channel.{fresh, frame, fragment, Receives};
 ghost use Rattle.zr_frame.specs.Channels.{one_of, on_one};
 
 use crate::channel::{Channel, ChannelError};
-use crate::limits::most_of;
 use std::alloc::Global;
 use zr_bytes::ByteString;
 use zr_msg::peer::Role;
+use zr_wire::most_of;
 
 /// The channels of one direction. Both count from the initial number of OPEN, each for itself.
 #[derive(Drop)]

@@ -6,7 +6,6 @@ mod channel;
 mod channels;
 mod counter;
 mod laws;
-mod limits;
 mod outbox;
 mod packer;
 
@@ -14,5 +13,4 @@ pub use channel::{Channel, ChannelError};
 pub use channels::Channels;
 pub use counter::{Counter, modulus};
 pub use laws::{packed_messages_are_received, parcels_are_short};
-pub use limits::{MOST_OF_CLIENT, MOST_OF_ROUTER, most_of};
 pub use outbox::{LEAST_BATCH, Outbox};

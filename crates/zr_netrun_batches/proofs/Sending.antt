@@ -17,7 +17,8 @@ use Rattle.zr_session.specs.Course.{Course}
 use Rattle.zr_session.specs.Stream.{Comes}
 use Rattle.zr_session.specs.Session.{SessionState, Stands}
 use Rattle.zr_session.specs.Laws.{PackedMessagesAreReadBack}
-use Rattle.zr_session.specs.Sending.{MayBeSent, packed_in, with_messages}
+use Rattle.zr_wire.specs.Sending.{MayBeSent}
+use Rattle.zr_session.specs.Sending.{packed_in, with_messages}
 use Rattle.zr_netrun_batches.specs.Coming.{messages_in, course_of, coming_to, coming, Leads, ComesOn}
 use Rattle.zr_netrun_batches.proofs.Feeding.{left, not_ended, messages_append}
 

@@ -17,7 +17,8 @@ use Rattle.zr_session.specs.declared.state.State.TheVariants.{Running, Ended, Sp
 use Rattle.zr_session.specs.Course.{Course}
 use Rattle.zr_session.specs.Stream.{Comes}
 use Rattle.zr_session.specs.Session.{SessionState, IsAt, Feeds}
-use Rattle.zr_session.specs.Sending.{AreNames, MayBeSent, hearing}
+use Rattle.zr_wire.specs.Sending.{MayBeSent}
+use Rattle.zr_session.specs.Sending.{AreNames, hearing}
 use Rattle.zr_session.proofs.Pieces.{comes_some}
 
 -- ---- messages

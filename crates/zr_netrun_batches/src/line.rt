@@ -1,7 +1,7 @@
 //! One direction of a link: what its sender writes, the bytes on the wire, and the session that reads them.
 
 ghost use Rattle.std.specs.Prelude.{◌≡◌, [], slice_get, IfOk, OnOk, OnErr};
-ghost use Rattle.zr_session.specs.Sending.{MayBeSent};
+ghost use Rattle.zr_wire.specs.Sending.{MayBeSent};
 ghost use Rattle.zr_netrun_batches.specs.Coming.{Leads};
 ghost use Rattle.zr_netrun_batches.specs.Line.{new_line, with_sent, without_first};
 

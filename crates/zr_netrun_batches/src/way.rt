@@ -2,7 +2,7 @@
 
 ghost use Rattle.std.specs.Prelude.{◌≡◌, ◌++◌, ◌∷◌, [], is_some, slice_get, IfOk, OnOk, OnErr};
 ghost use Rattle.std.specs.Option.{option_zip};
-ghost use Rattle.zr_session.specs.Sending.{MayBeSent};
+ghost use Rattle.zr_wire.specs.Sending.{MayBeSent};
 ghost use Rattle.zr_carrier.specs.Wire.{emptied, with_message, without_oldest};
 ghost use Rattle.zr_netrun_batches.specs.Line.{with_sent};
 ghost use Rattle.zr_netrun_batches.specs.Way.{wire_of};

@@ -31,7 +31,7 @@ use Rattle.zr_session.specs.declared.phase.Phase.TheVariants.{Established}
 use Rattle.zr_session.specs.Carried.{begins_network, between_routers_of, network_of, carried_of}
 use Rattle.zr_session.specs.Course.{gives}
 use Rattle.zr_session.specs.Step.{on_carried}
-use Rattle.zr_session.specs.Sending.{MayBeSent}
+use Rattle.zr_wire.specs.Sending.{MayBeSent}
 
 -- what is written in each format is read again, and the numbers that are given are known
 pub record AreRead : Type 0 where

@@ -20,7 +20,7 @@ use Rattle.zr_wire.specs.Writing.{text_of}
 use Rattle.zr_frame.specs.declared.channel.Channel.{Channel}
 use Rattle.zr_frame.specs.Channel.{frame, fragment}
 use Rattle.zr_frame.specs.Channels.{on_one, with_one}
-use Rattle.zr_frame.specs.Limits.{most_of}
+use Rattle.zr_wire.specs.Limits.{most_of}
 use Rattle.zr_frame.specs.Outbox.{OutboxState, IsOutbox, with_names}
 use Rattle.zr_frame.specs.Packing.{parcels}
 use Rattle.zr_frame.specs.Laws.{HandsOn, Delivers, expecting, ParcelsAreShort, PackedAreReceived}
@@ -38,7 +38,8 @@ use Rattle.zr_session.specs.Carried.{carried_of}
 use Rattle.zr_session.specs.Course.{Course, going, joined, and_then}
 use Rattle.zr_session.specs.Step.{on_frame, on_fragment, on_whole, established, with_channels, with_keys}
 use Rattle.zr_session.specs.Stream.{Item, Comes, item_of, trans_item, carried_item, items_within, on_batch, on_batches}
-use Rattle.zr_session.specs.Sending.{MayBeSent, AreNames, packed_in, outbox_of_peer, heard, hearing, with_messages}
+use Rattle.zr_wire.specs.Sending.{MayBeSent}
+use Rattle.zr_session.specs.Sending.{AreNames, packed_in, outbox_of_peer, heard, hearing, with_messages}
 use Rattle.zr_session.proofs.Courses.{then_nothing}
 use Rattle.zr_session.proofs.Items.{left, left_item}
 use Rattle.zr_session.proofs.Pieces.{comes_more}

@@ -31,7 +31,7 @@ use Rattle.zr_net.specs.Reading.{net_of}
 use Rattle.zr_net.specs.Writing as net
 use Rattle.zr_wire.specs.Roles.{admits}
 use Rattle.zr_wire.specs.Writing.{writes_message, writes_numbered, text_of}
-use Rattle.zr_frame.specs.Limits.{most_of}
+use Rattle.zr_wire.specs.Limits.{most_of}
 use Rattle.zr_frame_pack.specs.Packing.{Written, with_number, written_by, written_one, written}
 use Rattle.zr_open.specs.declared.error.Reason.TheVariants.{Generic}
 use Rattle.zr_session.specs.declared.carried.Carried.{Carried}
@@ -44,7 +44,8 @@ use Rattle.zr_session.specs.Carried.{begins_network, network_of, carried_of}
 use Rattle.zr_session.specs.Course.{Course, going}
 use Rattle.zr_session.specs.Step as step
 use Rattle.zr_session.specs.Step.{on_carried, with_keys}
-use Rattle.zr_session.specs.Sending.{MayBeSent, AreNames, heard}
+use Rattle.zr_wire.specs.Sending.{MayBeSent}
+use Rattle.zr_session.specs.Sending.{AreNames, heard}
 use Rattle.zr_session.proofs.Heard.{AreRead, IsHeard, message_heard}
 
 -- the session goes on, knows these texts then, and these events were given

@@ -19,7 +19,8 @@ use Rattle.zr_session.specs.Course.{Course, owed_in}
 use Rattle.zr_session.specs.Step.{established}
 use Rattle.zr_session.specs.Stream.{Comes}
 use Rattle.zr_session.specs.Session.{SessionState, begun, Feeds, Answers, fate_of, close_between, with_confirmed, owed_bytes, ticked}
-use Rattle.zr_session.specs.Sending.{MayBeSent, AreNames, packed_in, outbox_of_peer, hearing, with_messages}
+use Rattle.zr_wire.specs.Sending.{MayBeSent}
+use Rattle.zr_session.specs.Sending.{AreNames, packed_in, outbox_of_peer, hearing, with_messages}
 
 -- All bytes come to a course, and to one alone.
 pub record BytesHaveOneCourse : Type 0 where

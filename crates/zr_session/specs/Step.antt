@@ -12,7 +12,7 @@ use Rattle.zr_msg.specs.declared.peer.Role.TheVariants.{Client, Router}
 use Rattle.zr_decl.specs.declared.declared.Declared.TheVariants.{Told, Number, Unnumber, Ignored}
 use Rattle.zr_frame.specs.declared.channel.ChannelError.{ChannelError}
 use Rattle.zr_frame.specs.declared.channels.Channels.{Channels}
-use Rattle.zr_frame.specs.Limits.{most_of}
+use Rattle.zr_wire.specs.Limits.{most_of}
 use Rattle.zr_frame.specs.Channel.{fresh, frame, fragment}
 use Rattle.zr_frame.specs.Channels.{one_of, on_one}
 use Rattle.zr_open.specs.declared.error.OpenError.{OpenError}

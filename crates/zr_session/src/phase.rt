@@ -2,7 +2,7 @@
 
 ghost use Rattle.std.specs.Prelude.{◌≡◌, ◌<◌, IfOk};
 ghost use Rattle.zr_frame.specs.Turn.{modulus_of};
-ghost use Rattle.zr_frame.specs.Limits.{most_of};
+ghost use Rattle.zr_wire.specs.Limits.{most_of};
 ghost use Rattle.zr_frame.specs.Channel.{frame, fragment};
 ghost use Rattle.zr_frame.specs.Channels.{one_of, on_one};
 ghost use Rattle.zr_open.specs.Table.{AnswerFits};

@@ -3,8 +3,9 @@
 use crate::row::{self, Fault};
 use std::alloc::{AllocError, Global};
 use zr_bytes::{ByteString, Cursor, ReadError};
-use zr_frame::{Channel, ChannelError, MOST_OF_CLIENT, Outbox};
+use zr_frame::{Channel, ChannelError, Outbox};
 use zr_trans::{Trans, read_trans};
+use zr_wire::MOST_OF_CLIENT;
 
 /// The size code of numbers of 32 bits.
 const BITS: u8 = 2;

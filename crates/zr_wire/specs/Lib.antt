@@ -1,2 +1,4 @@
+pub mod Limits
 pub mod Roles
 pub mod Writing
+pub mod Sending

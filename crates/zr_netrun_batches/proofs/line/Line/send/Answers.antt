@@ -1,6 +1,6 @@
 use Rattle.std.proofs.Common.{sym, subst}
 use Rattle.std.proofs.lemmas.Result.{on_ok_weaker}
-use Rattle.zr_session.specs.Sending.{MayBeSent}
+use Rattle.zr_wire.specs.Sending.{MayBeSent}
 use Rattle.zr_netrun_batches.specs.Line.{LineState}
 use Rattle.zr_netrun_batches.specs.Coming.{ComesOn, coming}
 use Rattle.zr_netrun_batches.proofs.Feeding.{line_sent}

@@ -1,7 +1,7 @@
 //! How long the messages of a peer may be.
 
 ghost use Rattle.std.specs.Prelude.{◌≡◌};
-ghost use Rattle.zr_frame.specs.Limits.{most_of};
+ghost use Rattle.zr_wire.specs.Limits.{most_of};
 
 use zr_msg::peer::Role;
 
