@@ -1,4 +1,3 @@
-pub mod Snapshots
 pub mod NamesGiven
 pub mod Outboxes
 pub mod Returning

@@ -1,3 +1,2 @@
-pub mod Writable
 pub mod Packing
 pub mod Marks

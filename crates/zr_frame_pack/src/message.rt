@@ -1,7 +1,7 @@
 //! A message as its bytes.
 
 ghost use Rattle.std.specs.Prelude.{◌≡◌, ◌<◌, ◌≤◌, IfOk, length};
-ghost use Rattle.zr_frame_pack.specs.Writable.{IsSourced, IsWritable};
+ghost use Rattle.zr_wire.specs.Writable.{IsSourced, IsWritable};
 ghost use Rattle.zr_wire.specs.Writing.{writes_message, writes_numbered};
 ghost use Rattle.zr_wirekey.specs.Writing.{writes_name};
 
@@ -23,7 +23,7 @@ pub fn message_bytes(alloc: Global, msg: &Msg) -> Result<ByteString, AllocError>
 }
 
 /// The bytes of a message that may be written, with a number that was declared for its key (0: with the whole key).
-#[tactic(auto, using(crate::proofs::Snapshots::writable_spelled))]
+#[tactic(auto, using(zr_wire::proofs::Snapshots::writable_spelled))]
 pub fn numbered_bytes(alloc: Global, msg: &Msg, number: u16) -> Result<ByteString, AllocError>
     requires { IsWritable msg.now }
     ensures { IfOk result (λ b. b ≡ writes_numbered msg.now number) }

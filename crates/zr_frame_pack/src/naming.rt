@@ -7,7 +7,7 @@ ghost use Rattle.zr_frame.specs.Outbox.{IsOutbox, advanced, with_names};
 ghost use Rattle.zr_frame.specs.Packing.{one_parcel, parcels};
 ghost use Rattle.zr_frame_pack.specs.Marks.{at_mark, IsMarkOf, IsLater};
 ghost use Rattle.zr_frame_pack.specs.Packing.{gets_number, numbered_in, written_one};
-ghost use Rattle.zr_frame_pack.specs.Writable.{IsWritable};
+ghost use Rattle.zr_wire.specs.Writable.{IsWritable};
 ghost use Rattle.zr_wire.specs.Writing.{text_of, writes_numbered};
 ghost use Rattle.zr_wirekey.specs.Writing.{writes_name};
 

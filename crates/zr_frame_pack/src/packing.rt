@@ -4,7 +4,7 @@ ghost use Rattle.std.specs.Prelude.{◌≡◌, ◌++◌, All, IfOk, OnOk, OnErr}
 ghost use Rattle.zr_frame.specs.Outbox.{with_names};
 ghost use Rattle.zr_frame_pack.specs.Marks.{IsLater};
 ghost use Rattle.zr_frame_pack.specs.Packing.{parcels_of, written};
-ghost use Rattle.zr_frame_pack.specs.Writable.{IsWritable};
+ghost use Rattle.zr_wire.specs.Writable.{IsWritable};
 
 use crate::naming::NamingOutbox;
 use std::alloc::{AllocError, Global};

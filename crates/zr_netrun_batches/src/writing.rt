@@ -1,7 +1,7 @@
 //! A message as the batches of its sender.
 
 ghost use Rattle.std.specs.Prelude.{OnOk};
-ghost use Rattle.zr_frame_pack.specs.Writable.{IsWritable};
+ghost use Rattle.zr_wire.specs.Writable.{IsWritable};
 ghost use Rattle.zr_netrun_batches.specs.Coming.{ComesOn};
 
 use crate::tape::Tape;

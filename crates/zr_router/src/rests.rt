@@ -1,7 +1,7 @@
 //! Who is woken behind an event, and for how long its thread rests or waits.
 
 ghost use Rattle.std.specs.Prelude.{All, IfOk};
-ghost use Rattle.zr_frame_pack.specs.Writable.{IsWritable};
+ghost use Rattle.zr_wire.specs.Writable.{IsWritable};
 
 use crate::admit::MOST_SESSIONS;
 use std::alloc::{AllocError, Global};

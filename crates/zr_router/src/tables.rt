@@ -33,7 +33,7 @@ ghost use Rattle.zr_router.specs.Handled.{IsHandled};
 ghost use Rattle.zr_router.specs.Ended.{HasEnded};
 ghost use Rattle.zr_router.specs.Replayed.{AreAllowed-prop, HoldsSpelled-prop, IsReplay-prop};
 ghost use Rattle.zr_router_queue.specs.Held.{ComesSpelled, HoldsSpelled};
-ghost use Rattle.zr_frame_pack.specs.Writable.{IsWritable};
+ghost use Rattle.zr_wire.specs.Writable.{IsWritable};
 ghost use Rattle.zr_router.specs.Judged.{is_judged};
 ghost use Rattle.zr_router.specs.Runs.{IsStep, RunsUpTo};
 ghost use Rattle.zr_router.specs.Refusals.{RefusesDown, RefusesMessage, RefusesUp, down_refusal, is_worn, most_sessions, peer_refusal};

@@ -12,7 +12,7 @@ use Rattle.zr_frame.proofs.Lengths.{good_packed}
 use Rattle.zr_wire.specs.Writing.{writes_message}
 use Rattle.zr_wirekey.specs.Names.{NameList}
 use Rattle.zr_frame_pack.specs.Packing.{written, parcels_of}
-use Rattle.zr_frame_pack.specs.Writable.{IsWritable}
+use Rattle.zr_wire.specs.Writable.{IsWritable}
 use Rattle.zr_router_queue.specs.Tables.{may_drop, is_droppable}
 use Rattle.zr_router_queue.specs.Batches.{bytes_on, written_of}
 

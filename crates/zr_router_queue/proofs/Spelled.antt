@@ -50,7 +50,7 @@ use Rattle.zr_told_spec.specs.declared.place.Class.{Class}
 use Rattle.zr_told_spec.specs.declared.place.Class.TheVariants.{Subscriber, Queryable, Living}
 use Rattle.zr_told_spec.specs.declared.place.Place.{Place}
 use Rattle.zr_wire.specs.Writing.{IsSpelled}
-use Rattle.zr_frame_pack.specs.Writable.{IsWritable}
+use Rattle.zr_wire.specs.Writable.{IsWritable}
 use Rattle.zr_router_queue.specs.Held.{ComesSpelled, HoldsSpelled, IsReplySpelled}
 use Rattle.zr_router_queue.proofs.Holding.{found_spelled}
 use Rattle.zr_router_queue.proofs.Kept.{IsKept, kept_after, neither}

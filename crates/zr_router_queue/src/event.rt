@@ -7,7 +7,7 @@ ghost use Rattle.zr_hist.specs.Words.{IsKeptOf, IsPassOf, IsSameKept, IsSamePass
 ghost use Rattle.zr_port.specs.Adding.{IsEntryOf};
 ghost use Rattle.zr_node_spec.specs.Event.{on_link};
 ghost use Rattle.zr_told_spec.specs.Hub.{HubState};
-ghost use Rattle.zr_frame_pack.specs.Writable.{IsWritable};
+ghost use Rattle.zr_wire.specs.Writable.{IsWritable};
 ghost use Rattle.zr_router_queue.specs.Tables.{open_queues, queued_by, replay};
 ghost use Rattle.zr_router_queue.specs.History.{is_legal};
 ghost use Rattle.zr_router_queue.specs.Ends.{IsAsked, IsEntered, IsNamed, IsPlannedAnew, IsPlannedFor, IsSameRing, IsSettled, MayEnter, is_closing, is_dropped};

@@ -9,7 +9,7 @@ ghost use Rattle.zr_ring.specs.Items.{end_of, most_parcels};
 ghost use Rattle.zr_ring.specs.Taker.{taken, taker_name, take_calls};
 ghost use Rattle.zr_node_spec.specs.Event.{on_link};
 ghost use Rattle.zr_frame_pack.specs.Marks as marks;
-ghost use Rattle.zr_frame_pack.specs.Writable.{IsWritable};
+ghost use Rattle.zr_wire.specs.Writable.{IsWritable};
 ghost use Rattle.zr_told_spec.specs.Hub.{HubState};
 ghost use Rattle.zr_router_queue.specs.Batches.{written_of};
 ghost use Rattle.zr_router_queue.specs.Tables as tables;

@@ -9,7 +9,7 @@ ghost use Rattle.zr_frame.specs.Packing.{one_parcel, parcels};
 ghost use Rattle.zr_frame_pack.specs.Marks.{IsLater};
 ghost use Rattle.zr_frame_pack.specs.Packing as packing;
 ghost use Rattle.zr_frame_pack.specs.Packing.{parcels_of, written_one};
-ghost use Rattle.zr_frame_pack.specs.Writable.{IsWritable};
+ghost use Rattle.zr_wire.specs.Writable.{IsWritable};
 ghost use Rattle.zr_wire.specs.Writing.{writes_message};
 ghost use Rattle.zr_router_queue.specs.Batches.{batches_in, bytes_on, written_of};
 

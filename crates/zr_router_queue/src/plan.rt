@@ -5,7 +5,7 @@ ghost use Rattle.std.specs.List.{AllByRecursion, AllByRecursion-prop};
 ghost use Rattle.std.proofs.Props.{props};
 ghost use Rattle.zr_frame_pack.specs.Marks.{IsLater};
 ghost use Rattle.zr_frame_pack.specs.Packing.{parcels_of};
-ghost use Rattle.zr_frame_pack.specs.Writable.{IsWritable};
+ghost use Rattle.zr_wire.specs.Writable.{IsWritable};
 ghost use Rattle.zr_router_queue.specs.Tables.{may_drop, is_droppable};
 ghost use Rattle.zr_node_spec.specs.Event.{on_link};
 ghost use Rattle.zr_router_queue.specs.Batches.{batches_in, written_of};

@@ -2,7 +2,7 @@
 
 ghost use Rattle.std.specs.Prelude.{◌≡◌, All, IfOk};
 ghost use Rattle.zr_router_queue.specs.Batches.{written_of};
-ghost use Rattle.zr_frame_pack.specs.Writable.{IsWritable};
+ghost use Rattle.zr_wire.specs.Writable.{IsWritable};
 ghost use Rattle.zr_wire.specs.Writing.{writes_message};
 
 use crate::same_sample::is_same_sample;

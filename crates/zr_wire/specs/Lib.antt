@@ -1,4 +1,5 @@
 pub mod Limits
 pub mod Roles
 pub mod Writing
+pub mod Writable
 pub mod Sending

@@ -1,5 +1,5 @@
 use Rattle.std.proofs.Common.{All}
-use Rattle.zr_frame_pack.specs.Writable.{IsWritable}
+use Rattle.zr_wire.specs.Writable.{IsWritable}
 use Rattle.zr_router.proofs.rests.parcel_each.Given as goal
 
 abbrev pub invariant-loop : goal.invariant-loop

@@ -20,7 +20,7 @@ use Rattle.zr_oam.specs.Oam.{decl_before}
 use Rattle.zr_oam.specs.Writing.{writes_decl, writes_snap, decls_in_order}
 use Rattle.zr_log_set.specs.Decls.{IsSet, decl_weight, weight, most_weight}
 use Rattle.zr_wire.specs.Writing.{IsSpelled}
-use Rattle.zr_frame_pack.specs.Writable.{IsLightSnap, IsSourced, IsWritable}
+use Rattle.zr_wire.specs.Writable.{IsLightSnap, IsSourced, IsWritable}
 
 -- ---- the order on the wire is that of sets
 
