@@ -218,9 +218,9 @@ module _ (n : ℕ) (short : n ≤ most_line) where
     untoken = λ client id. quiet n (a.Untoken client id) (λ m. refl);
     able = λ client id word key complete k. quiet n (a.Able client id key complete) (λ m. refl);
     unable = λ client id. quiet n (a.Unable client id) (λ m. refl);
-    interest = λ client id mode kinds word key aggregate k. quiet n (a.Interest client id mode kinds key aggregate) (λ m. refl);
+    interest = λ client id mode kind kinds word key aggregate e k. quiet n (a.Interest client id mode kinds key aggregate) (λ m. refl);
     uninterest = λ client id. quiet n (a.Uninterest client id) (λ m. refl);
-    put = λ client word key payload k. quiet n (a.Publish client (plain key (put_body payload))) (λ m. refl);
+    put = λ name w client key e k. quiet n (a.Publish client (plain key (put_body (payload_at w.2)))) (λ m. refl);
     del = λ client word key k. quiet n (a.Publish client (plain key del_body)) (λ m. refl);
     get = λ client number target latest word key k. quiet n (a.Get client number target (plain key (asking_body latest))) (λ m. refl);
     reply = reply_fits ws fits;

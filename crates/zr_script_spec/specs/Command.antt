@@ -19,7 +19,7 @@
 --   Limit           a limit of the world would be passed
 --
 -- Out of memory, `NoMemory`, is no refusal: no definition says it.
-use Rattle.std.specs.Prelude.{ℕ, ◌==◌, ◌||◌, not, nat_lt, Bool, true, false, if◌then◌else◌, List, [], ◌∷◌, ◌++◌, length, codes, Option, Some, None, Result, Ok, Err}
+use Rattle.std.specs.Prelude.{◌≡◌, ℕ, ◌==◌, ◌||◌, not, nat_lt, Bool, true, false, if◌then◌else◌, List, [], ◌∷◌, ◌++◌, length, codes, Option, Some, None, Result, Ok, Err}
 use Rattle.zr_id.specs.Zid.{is_named}
 use Rattle.zr_bytes.specs.Number.{writes}
 use Rattle.zr_bytes.specs.Text.{writes_text}
@@ -28,6 +28,7 @@ use Rattle.zr_msg.specs.declared.content.Parts.{Parts}
 use Rattle.zr_msg.specs.Extras.{no_extras}
 use Rattle.zr_script_spec.specs.declared.error.ScriptError.{ScriptError}
 use Rattle.zr_script_spec.specs.declared.error.ScriptError.TheVariants.{UnknownCommand, BadWords, Limit}
+use Rattle.zr_script_spec.specs.declared.command.Act as act
 use Rattle.zr_script_spec.specs.declared.command.Act.TheVariants.{Router, Client, Link, Up, Break, Down, Show, Sub, Unsub, Token, Untoken, Able, Unable, Interest, Uninterest, Publish, Get, Reply, End, Handle, Take, Mark}
 use Rattle.zr_script_spec.specs.declared.command.Command.{Command}
 use Rattle.zr_script_spec.specs.declared.command.Command.TheVariants.{Act, Run, Fan}
@@ -354,3 +355,7 @@ command_of line =
     if nat_lt most_line (length line) then Err Limit
     else if is_silent line then Ok None
     else by_words (is_clean line) (words line) >>= (λ command. Ok (Some command))
+
+-- Some line asks for the act. Its words are short, since a line is.
+abbrev pub IsLineAct : act.Act → Type 0
+IsLineAct x = (line : List ℕ) × (command_of line ≡ Ok (Some (Act x)))

@@ -27,6 +27,17 @@ either : {B : Type 0} (P : B → Type 0) (t : Bool) (x y : Result B ScriptError)
 either P true x y h k = h refl
 either P false x y h k = k
 
+-- three words
+abbrev pub ThreeWords : Type 0
+ThreeWords = List ℕ × List ℕ × List ℕ
+
+three_are : (args : List (List ℕ)) (w : ThreeWords) → three_of args ≡ Ok w → args ≡ w.0 ∷ w.1 ∷ w.2 ∷ []
+three_are [] w e = absurd (cc)
+three_are (p ∷ []) w e = absurd (cc)
+three_are (p ∷ q ∷ []) w e = absurd (cc)
+three_are (p ∷ q ∷ r ∷ []) w e = let same : (p, q, r) ≡ w = cc in ap (λ (z : ThreeWords). z.0 ∷ z.1 ∷ z.2 ∷ []) same
+three_are (p ∷ q ∷ r ∷ s ∷ more) w e = absurd (cc)
+
 -- four words, and those behind them
 abbrev pub FourWords : Type 0
 FourWords = List ℕ × List ℕ × List ℕ × List ℕ × List (List ℕ)
@@ -54,10 +65,10 @@ pub record Forms (P : Command → Type 0) (ws : List (List ℕ)) : Type 0 where
   pub unable : (client : List ℕ) (id : ℕ) → P (Act (a.Unable client id))
   pub token : (client : List ℕ) (id : ℕ) (word key : List ℕ) → key_at word ≡ Ok key → P (Act (a.Token client id key))
   pub untoken : (client : List ℕ) (id : ℕ) → P (Act (a.Untoken client id))
-  pub interest : (client : List ℕ) (id : ℕ) (mode : Mode) (kinds : Kinds) (word : List ℕ) (key : Option (List ℕ)) (aggregate : Bool) → optional_key_at word ≡ Ok key →
+  pub interest : (client : List ℕ) (id : ℕ) (mode : Mode) (kind : List ℕ) (kinds : Kinds) (word : List ℕ) (key : Option (List ℕ)) (aggregate : Bool) → kinds_at kind ≡ Ok kinds → optional_key_at word ≡ Ok key →
       P (Act (a.Interest client id mode kinds key aggregate))
   pub uninterest : (client : List ℕ) (id : ℕ) → P (Act (a.Uninterest client id))
-  pub put : (client word key payload : List ℕ) → key_at word ≡ Ok key → P (Act (a.Publish client (plain key (put_body payload))))
+  pub put : (name : List ℕ) (w : ThreeWords) (client key : List ℕ) → ws ≡ name ∷ w.0 ∷ w.1 ∷ w.2 ∷ [] → key_at w.1 ≡ Ok key → P (Act (a.Publish client (plain key (put_body (payload_at w.2)))))
   pub del : (client word key : List ℕ) → key_at word ≡ Ok key → P (Act (a.Publish client (plain key del_body)))
   pub get : (client : List ℕ) (number : ℕ) (target : Target) (latest : Bool) (word key : List ℕ) → key_at word ≡ Ok key →
       P (Act (a.Get client number target (plain key (asking_body latest))))
@@ -129,7 +140,7 @@ module _ (P : Command → Type 0) (name : List ℕ) (args : List (List ℕ)) (f 
   interest_asks : Asks (interest_line args)
   unfolding interest_line
   interest_asks = step P (five_of args) _ (λ w e. step P (zid_at w.0) _ (λ client i. step P (number_at w.1) _ (λ id j. step P (mode_at w.2) _ (λ mode k. step P (kinds_at w.3) _ (λ kinds l.
-      step P (aggregate_at w.5) _ (λ aggregate m. step P (optional_key_at w.4) _ (λ key o. f.interest client id mode kinds w.4 key aggregate o)))))))
+      step P (aggregate_at w.5) _ (λ aggregate m. step P (optional_key_at w.4) _ (λ key o. f.interest client id mode w.3 kinds w.4 key aggregate l o)))))))
 
   uninterest_asks : Asks (uninterest_line args)
   unfolding uninterest_line
@@ -137,7 +148,7 @@ module _ (P : Command → Type 0) (name : List ℕ) (args : List (List ℕ)) (f 
 
   put_asks : Asks (put_line args)
   unfolding put_line
-  put_asks = step P (three_of args) _ (λ w e. step P (zid_at w.0) _ (λ client i. step P (key_at w.1) _ (λ key k. f.put client w.1 key (payload_at w.2) k)))
+  put_asks = step P (three_of args) _ (λ w e. step P (zid_at w.0) _ (λ client i. step P (key_at w.1) _ (λ key k. f.put name w client key (ap (λ z. name ∷ z) (three_are args w e)) k)))
 
   del_asks : Asks (del_line args)
   unfolding del_line
