@@ -61,7 +61,7 @@ in_order (d ∷ ds) up = behind_one d ds (sorted_head decl_cmp d ds up) (sorted_
 decl_long : (d : Decl) → length (writes_decl d) ≤ decl_weight d
 decl_long d = omega (arith, length-append (writes (length d.key)) d.key, written_long 8 (length d.key))
 
-decls_long : (ds : List Decl) → length (flat_map (λ d. writes_decl d) ds) ≤ weight ds
+pub decls_long : (ds : List Decl) → length (flat_map (λ d. writes_decl d) ds) ≤ weight ds
 decls_long [] = omega arith
 decls_long (d ∷ ds) =
     omega (arith, length-append (writes_decl d) (flat_map (λ e. writes_decl e) ds), decl_long d, decls_long ds, sum_by-cons decl_weight d ds)
