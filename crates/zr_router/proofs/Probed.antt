@@ -1,27 +1,25 @@
--- Rings that were asked as for an event: what was queued for the links is the same.
-use Rattle.std.proofs.Common.{◌≡◌, ℕ, List, [], ◌∷◌, map, refl, ◌∙◌}
+-- Rings that were asked as for an event, whether or not memory ran out: what was queued for the links is the same.
+use Rattle.std.proofs.Common.{◌≡◌, ℕ, List, [], ◌∷◌, map, refl, ap, ◌∙◌}
 use Rattle.std.specs.List.{AllZip}
-use Rattle.zr_id.specs.declared.link.LinkNo.{LinkNo}
-use Rattle.zr_msg.specs.declared.msg.Msg.{Msg}
-use Rattle.zr_node_spec.specs.Event.{on_link}
 use Rattle.zr_port.specs.declared.entry.Entry.{Entry}
 use Rattle.zr_told_spec.specs.Hub.{HubState}
-use Rattle.zr_router_queue.specs.Ends.{EndState, IsAsked, IsPlannedFor, IsReplay}
-use Rattle.zr_router_queue.proofs.Named.{named_planned}
+use Rattle.zr_router_queue.specs.Ends.{EndState, IsReplay, IsStill}
+use Rattle.zr_router_queue.specs.Tables.{LinkQueue}
+use Rattle.zr_router_queue.proofs.Named.{named_too}
+use Rattle.zr_router_queue.proofs.Stepped.{zip_so}
 
-same_queues : (sent : List (LinkNo × Msg)) (xs ys : List EndState) → AllZip (λ old new. (new.queue ≡ old.queue) × IsPlannedFor (on_link old.queue.link sent) new) xs ys
-    → map (λ e. e.queue) ys ≡ map (λ e. e.queue) xs
-same_queues sent [] [] r = refl
-same_queues sent [] (y ∷ ys) r = absurd r
-same_queues sent (x ∷ xs) [] r = absurd r
-same_queues sent (x ∷ xs) (y ∷ ys) r = rw (r.0.0, same_queues sent xs ys r.1) refl
+same_queues : (xs ys : List EndState) → AllZip (λ old new. IsStill old new) xs ys → map (λ e. e.queue) ys ≡ map (λ e. e.queue) xs
+same_queues [] [] r = refl
+same_queues [] (y ∷ ys) r = absurd r
+same_queues (x ∷ xs) [] r = absurd r
+same_queues (x ∷ xs) (y ∷ ys) r = rw (r.0.0, same_queues xs ys r.1) refl
 
 -- so the tables are the same replay
-pub probed : (me : List ℕ) (h : List Entry) (hub : HubState) (sent : List (LinkNo × Msg)) (xs ys : List EndState)
-    → AllZip (λ old new. (new.queue ≡ old.queue) × IsPlannedFor (on_link old.queue.link sent) new) xs ys → AllZip (λ old new. IsAsked old new) xs ys
-    → IsReplay me h hub xs → IsReplay me h hub ys
-probed me h hub sent xs ys planned asked r = record {
+pub probed : (me : List ℕ) (h : List Entry) (hub : HubState) (xs ys : List EndState) → AllZip (λ old new. IsStill old new) xs ys → IsReplay me h hub xs → IsReplay me h hub ys
+probed me h hub xs ys still r = record {
   hub_is = r.hub_is;
-  queues = same_queues sent xs ys planned ∙ r.queues;
-  named = named_planned me h sent xs ys r.named planned asked;
+  queues = same_queues xs ys still ∙ r.queues;
+  named = named_too me h xs ys r.named
+      (zip_so (λ old new. IsStill old new) (λ (old new : EndState). new.ring ≡ old.ring) (λ old new s. s.1) xs ys still)
+      (zip_so (λ old new. IsStill old new) (λ (old new : EndState). new.queue.link ≡ old.queue.link) (λ old new s. ap (λ (q : LinkQueue). q.link) s.0) xs ys still);
 }

@@ -415,9 +415,9 @@ impl<B: Naming> Tables<B> {
         asked & !pace.clear_of != 0
     }
 
-    /// What an event that comes over a link is to wait for.
+    /// What an event that comes over a link is to wait for. Where memory runs out it waits for nothing, and that spends nothing: the event may be refused yet.
     pub(crate) fn outlook(&mut self, alloc: Global, from: LinkNo, coming: Coming<'_>) -> Outlook
-        ensures { entries self.new ≡ entries self.old }
+        ensures { (entries self.new ≡ entries self.old) × (is_spent self.new ≡ is_spent self.old) }
     {
         if coming.may_be_dropped() {
             let reached = self.view().reached(from, coming, self.wanted);
@@ -440,7 +440,7 @@ impl<B: Naming> Tables<B> {
 
     // How much room the rings of these links have for so many parcels each. No link counts where memory has run out.
     fn crowds(&mut self, alloc: Global, links: u128, parcels: u64) -> Crowds
-        ensures { entries self.new ≡ entries self.old }
+        ensures { (entries self.new ≡ entries self.old) × (is_spent self.new ≡ is_spent self.old) }
     {
         if links == 0 || self.is_spent {
             return Crowds::none(parcels);
@@ -456,21 +456,20 @@ impl<B: Naming> Tables<B> {
         }
     }
 
-    // Rings are asked as for an event that sends this, of which nothing is entered.
+    // Rings are asked as for an event that sends this, of which nothing is entered: so nothing is spent.
     fn probe(&mut self, alloc: Global, sent: &[(LinkNo, Msg)]) -> Result<(), AllocError>
-        requires spent { self.old.is_spent ≡ false }
+        requires open { self.old.is_spent ≡ false }
         requires written { All (λ x. IsWritable x.1) sent.now }
         ensures kept { list_of self.new.kept ≡ list_of self.old.kept }
-        ensures spent { self.new.is_spent ≡ is_err result }
+        ensures open { self.new.is_spent ≡ false }
     {
         self.is_spent = true;
         let ends = self.ends.as_mut_slice();
         let event = Event::Down { link: LinkNo(0) }; // whichever: it isn't entered
-        let entry = prepare(alloc, ends, sent, event, None, None)?;
-        let pressed = pressed_by(ends, sent, self.pressed);
-        drop(entry);
-        self.pressed = pressed;
-        self.is_spent = false; // nothing was entered
+        let asked = prepare(alloc, ends, sent, event, None, None);
+        self.is_spent = false;
+        drop(asked?);
+        self.pressed = pressed_by(self.ends.as_slice(), sent, self.pressed);
         Ok(())
     }
 

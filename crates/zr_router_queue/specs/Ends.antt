@@ -62,6 +62,10 @@ IsNamed me h e = FitsRing e.ring.name me e.queue.link h
 abbrev pub IsAsked : EndState → EndState → Type 0
 IsAsked old new = (new.ring ≡ old.ring) × IfSome new.plan (λ p. 0 < length p.parcels.batches → new.calls ≡ old.calls + 1)
 
+-- the same was queued for the link, and it has the same ring
+abbrev pub IsStill : EndState → EndState → Type 0
+IsStill old new = (new.queue ≡ old.queue) × (new.ring ≡ old.ring)
+
 -- it is the same ring, which was not asked again: the free slots that are known are fewer by the parcels that it was given
 abbrev pub IsSameRing : EndState → EndState → Type 0
 IsSameRing old new = (new.ring ≡ old.ring) × (new.calls ≡ old.calls) × (new.free + length new.queue.batches ≡ old.free + length old.queue.batches)

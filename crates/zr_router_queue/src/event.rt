@@ -10,7 +10,7 @@ ghost use Rattle.zr_told_spec.specs.Hub.{HubState};
 ghost use Rattle.zr_wire.specs.Writable.{IsWritable};
 ghost use Rattle.zr_router_queue.specs.Tables.{open_queues, queued_by, replay};
 ghost use Rattle.zr_router_queue.specs.History.{is_legal};
-ghost use Rattle.zr_router_queue.specs.Ends.{IsAsked, IsEntered, IsNamed, IsPlannedAnew, IsPlannedFor, IsSameRing, IsSettled, MayEnter, is_closing, is_dropped};
+ghost use Rattle.zr_router_queue.specs.Ends.{IsAsked, IsEntered, IsNamed, IsPlannedAnew, IsPlannedFor, IsSameRing, IsSettled, IsStill, MayEnter, is_closing, is_dropped};
 
 use crate::link_end::LinkSender;
 use crate::scratch::Scratch;
@@ -24,7 +24,8 @@ use zr_msg::event::Event;
 use zr_msg::msg::Msg;
 use zr_port::{Entry, Links};
 
-/// Plans what an event sends on each link that is up, and makes its entry, which names the links whose rings lack room.
+/// Plans what an event sends on each link that is up, and makes its entry, which names the links whose rings lack room. Nothing is given to a ring, and
+/// where memory runs out what was queued is as before too.
 pub fn prepare(
     alloc: Global,
     ends: &mut [LinkSender],
@@ -36,6 +37,7 @@ pub fn prepare(
     requires { All (λ x. IsWritable x.1) sent.now }
     ensures each { OnOk result (AllZip (λ old new. (new.queue ≡ old.queue) × IsPlannedFor (on_link old.queue.link sent.now) new) ends.old ends.new) }
     ensures asked { OnOk result (AllZip (λ old new. IsAsked old new) ends.old ends.new) }
+    ensures still { AllZip (λ old new. IsStill old new) ends.old ends.new }
     ensures entry { IfOk result (λ e. IsEntryOf event outbox reason e) }
     ensures dropped { IfOk result (λ e. e.dropped ≡ map (λ x. x.queue.link) (filter (λ x. is_dropped x) ends.new)) }
     ensures closed { IfOk result (λ e. e.closed ≡ map (λ x. x.queue.link) (filter (λ x. is_closing x) ends.new)) }
@@ -68,6 +70,7 @@ fn plan_links(
 ) -> Result<Lacking, AllocError>
     requires { All (λ x. IsWritable x.1) sent.now }
     ensures planned { OnOk result (AllZip (λ old new. IsPlannedAnew (on_link old.queue.link sent.now) old new) ends.old ends.new) }
+    ensures still { AllZip (λ old new. IsStill old new) ends.old ends.new }
     ensures dropped { IfOk result (λ l. l.dropped ≡ map (λ x. x.queue.link) (filter (λ x. is_dropped x) ends.new)) }
     ensures closed { IfOk result (λ l. l.closed ≡ map (λ x. x.queue.link) (filter (λ x. is_closing x) ends.new)) }
 {
@@ -85,7 +88,8 @@ fn plan_all(
     sent: &[(LinkNo, Msg)],
 ) -> Result<(), AllocError>
     requires { All (λ x. IsWritable x.1) sent.now }
-    ensures { OnOk result (AllZip (λ old new. IsPlannedAnew (on_link old.queue.link sent.now) old new) ends.old ends.new) }
+    ensures planned { OnOk result (AllZip (λ old new. IsPlannedAnew (on_link old.queue.link sent.now) old new) ends.old ends.new) }
+    ensures still { AllZip (λ old new. IsStill old new) ends.old ends.new }
 {
     let written = written(alloc, sent)?;
     let mut scratch = Scratch::new(alloc)?;

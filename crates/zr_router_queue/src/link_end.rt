@@ -177,7 +177,7 @@ impl LinkSender {
         requires written { written.now ≡ written_of sent.now }
         ensures queue { self.new.queue ≡ self.old.queue }
         ensures planned { OnOk result (IsPlannedFor (on_link self.old.queue.link sent.now) self.new) }
-        ensures asked { OnOk result (IsAsked self.old self.new) }
+        ensures asked { IsAsked self.old self.new }
     {
         self.plan = None;
         self.outbox.return_to(self.mark); // behind a plan that the ring wasn't given

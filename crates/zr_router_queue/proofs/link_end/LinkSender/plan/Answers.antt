@@ -24,6 +24,9 @@ returns-in_err-plan-clause-queue c =
     let back = back_later c.self.inside.outbox c.return_to.new.self c.of.new.outbox c.self.inside.mark is c.return_to.ensures c.of.ensures.later in
     queue_back _ _ _ (ap (λ (e : EndState). e.queue) c.self.view_is) back.0
 
+pub returns-in_err-plan-clause-asked : goal.returns-in_err-plan-clause-asked
+returns-in_err-plan-clause-asked c = (ap (λ (e : EndState). e.ring) c.self.view_is, tt)
+
 -- the plan is kept
 pub returns-clause-queue : goal.returns-clause-queue
 returns-clause-queue c =
