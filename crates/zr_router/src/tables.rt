@@ -541,17 +541,13 @@ impl<B: Naming> Tables<B> {
             reason: None,
             is_former: false,
         };
-        match self.enter(alloc, history, pass, arrival, sent.as_slice()) {
-            Ok(()) => {
-                drop(sent);
-                Ok((link, taker))
-            }
-            Err(AllocError) => {
-                drop(sent);
-                drop(taker);
-                Err(UpError::NoMemory)
-            }
-        }
+        let Ok(()) = self.enter(alloc, history, pass, arrival, sent.as_slice()) else {
+            drop(sent);
+            drop(taker);
+            return Err(UpError::NoMemory);
+        };
+        drop(sent);
+        Ok((link, taker))
     }
 
     /// A link has ended, by this end for the reason where there is one. Its ring, whose giver is the answer, gets its end with it unless it has one.
