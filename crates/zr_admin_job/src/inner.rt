@@ -11,7 +11,7 @@ use zr_admin::Admin;
 use zr_link::PortClock;
 use zr_link_job::ServeJob;
 use zr_outside::clock::Clock;
-use zr_outside_crew::Crew;
+use zr_outside_crew::{Crew, Job};
 use zr_port_glance::Glancing;
 
 /// How many steps an inner client makes at most, and how often it is opened at most.
@@ -35,6 +35,10 @@ impl<P: Glancing + Drop, C: Clock + Drop> InnerJob<P, C> {
         let clock = PortClock::new(clock, port, admin.link);
         InnerJob { admin, clock, word }
     }
+}
+
+impl<P: Glancing + Drop, C: Clock + Drop> Job<ServeJob, ()> for InnerJob<P, C> {
+    ghost told = { λ _. Inner };
 }
 
 /// Starts an inner client by the crew, which tells that it did. Where the crew hands it back its link goes down.

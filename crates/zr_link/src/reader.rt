@@ -321,7 +321,8 @@ where
         return Err((end, out.sink));
     }
     let job = Writing::new(alloc, out, link, peer, taker);
-    match crew.start(job, link, |job: Writing<K, P, C, L>| write(job)) {
+    let run = |job: Writing<K, P, C, L>| write(job);
+    match crew.start(job, link, run) {
         Ok(()) => Ok(()),
         Err(job) => {
             let Writing { mut sink, .. } = job;

@@ -37,7 +37,7 @@ use zr_outside::clock::Clock;
 use zr_outside::log::Log;
 use zr_outside::sink::{Sink, write_all};
 use zr_outside::source::Source;
-use zr_outside_crew::Crew;
+use zr_outside_crew::{Crew, Job};
 use zr_port::{Entry, Port};
 use zr_session::Session;
 
@@ -175,6 +175,17 @@ struct Outcome<S: Source + Drop, C: Clock + Drop, L: Log + Drop> {
     end: LinkEnd,
 }
 
+impl<
+    S: Source + Drop,
+    K: Sink + Drop,
+    C: Clock + Drop,
+    L: Log + Drop,
+    P: Port + Drop,
+    R: Threads + Drop,
+> Job<ServeJob, ()> for Hearing<S, K, C, L, P, R> {
+    ghost told = { λ h. Link (record { start = h.start; policy = P.policy (arc_value h.port) }) };
+}
+
 // Runs the reader of a link. How it ended is seen by the peer and the log alone.
 fn read<
     S: Source + Drop,
@@ -221,18 +232,17 @@ where
     } = hearing;
     let mut log = LinkLog::new(alloc, log, Stage::Unopened);
     log.judge_by(rules);
-    let out = Outward {
-        sink,
-        port,
-        clock: writer_clock,
-        turns: start.turns,
-        log: writer_log,
-    };
     let end = hear(
         alloc,
         &start,
         &mut source,
-        out,
+        Outward {
+            sink,
+            port,
+            clock: writer_clock,
+            turns: start.turns,
+            log: writer_log,
+        },
         &mut clock,
         &mut crew,
         &mut pass,

@@ -5,6 +5,7 @@ ghost use Rattle.zr_outside.specs.Counts.{Counted};
 ghost use Rattle.zr_outside_crew.specs.Told.{items_of, with_last, HasRoom};
 
 use crate::busy::Busy;
+use crate::job::Job;
 use std::alloc::{AllocError, Global};
 use std::sync::atomic::{AtomicBool, Ordering};
 use std::sync::{Arc, Wait};
@@ -72,14 +73,15 @@ impl<R: Threads + Drop, T: Drop> Crew<R, T> {
         }
     }
 
-    /// Starts a thread that runs a job, which then stands last among those told as this data; or gives the job back.
-    pub fn start<J: Send + Drop + 'static, F: FnOnce(J) + Send + Drop + 'static>(
-        &mut self,
-        job: J,
-        told: T,
-        run: F,
-    ) -> Result<(), J>
-        requires { (j : J) → F.pre run j }
+    /// Starts a thread that does a job by `run`; the job then stands last among those told, as the data that is to be told of it. Or gives the job back.
+    pub fn start<
+        J: Job<T, O> + Send + Drop + 'static,
+        O: Send + Drop + 'static,
+        F: FnOnce(J) -> O + Send + Drop + 'static,
+    >(&mut self, job: J, told: T, run: F) -> Result<(), J>
+        requires own { told ≡ J.told job }
+        requires may { (j : J) → F.pre run j }
+        requires done { (j : J) (o : O) → F.post run j o → J.leaves j o }
         ensures back { IsBack job result }
         ensures failed { Counted (crew_faults self.old) (crew_faults self.new) (is_err result ≡ true) }
         ensures told { Tells result told (crew_told self.old) (crew_told self.new) }
@@ -100,11 +102,11 @@ impl<R: Threads + Drop, T: Drop> Crew<R, T> {
     }
 
     // Starts the thread; its closure hands the job back where there can be none.
-    fn spawn<J: Send + Drop + 'static, F: FnOnce(J) + Send + Drop + 'static>(
-        &self,
-        job: J,
-        run: F,
-    ) -> Result<(), J>
+    fn spawn<
+        J: Send + Drop + 'static,
+        O: Send + Drop + 'static,
+        F: FnOnce(J) -> O + Send + Drop + 'static,
+    >(&self, job: J, run: F) -> Result<(), J>
         requires { (j : J) → F.pre run j }
         ensures { IsBack job result }
     {
@@ -124,7 +126,7 @@ impl<R: Threads + Drop, T: Drop> Crew<R, T> {
             if theirs.load(Ordering::SeqCst) {
                 return Some(job);
             }
-            run(job);
+            drop(run(job));
             busy.end();
             None
         };

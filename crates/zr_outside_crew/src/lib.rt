@@ -4,5 +4,7 @@
 
 mod busy;
 mod crew;
+mod job;
 
 pub use crew::Crew;
+pub use job::Job;

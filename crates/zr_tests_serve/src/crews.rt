@@ -1,10 +1,12 @@
+ghost use Rattle.std.specs.Prelude.{◌≡◌, IfOk};
+
 use std::alloc::{AllocError, Global};
 use std::sync::Wait;
 use std::test::Fail;
 use std::thread::Threads;
 use zr_outside::sink::Sink;
 use zr_outside::source::{Got, Source};
-use zr_outside_crew::Crew;
+use zr_outside_crew::{Crew, Job};
 use zr_outside_mem::gate::{Gate, GateSink, GateSource, Part};
 use zr_outside_mem::mem_sink::MemSink;
 
@@ -17,40 +19,51 @@ fn source_of(alloc: Global, gate: &Gate) -> Result<GateSource, AllocError> {
     Ok(GateSource::new(gate.share()?, vec![in alloc; part]?))
 }
 
-/// Reads from a source until it gives bytes, and then writes one.
+/// Waits for nothing, and writes one byte.
+#[derive(Drop)]
+struct Putter {
+    sink: GateSink<MemSink>,
+    number: u8,
+}
+
+/// Reads from a source until it gives bytes, and then does as a putter.
 #[derive(Drop)]
 struct Relay {
     source: GateSource,
-    sink: GateSink<MemSink>,
+    putter: Putter,
 }
 
-impl Relay {
-    fn new(alloc: Global, from: &Gate, to: &Gate) -> Result<Relay, AllocError> {
-        Ok(Relay {
-            source: source_of(alloc, from)?,
-            sink: GateSink::new(MemSink::new(alloc, Vec::new(alloc)), to.share()?),
-        })
-    }
+impl Job<u8, ()> for Putter {
+    ghost told = { λ p. p.number };
+}
+
+impl Job<u8, ()> for Relay {
+    ghost told = { λ r. r.putter.number };
+}
+
+// A job that writes through a gate and is told as this number.
+fn put_through(alloc: Global, to: &Gate, number: u8) -> Result<Putter, AllocError>
+    ensures { IfOk result (λ p. p.number ≡ number) }
+{
+    let sink = GateSink::new(MemSink::new(alloc, Vec::new(alloc)), to.share()?);
+    Ok(Putter { sink, number })
 }
 
 const MOST_READS: u64 = 100_000_000_000;
 
 fn pass_on(job: Relay) {
-    let Relay {
-        mut source,
-        mut sink,
-    } = job;
+    let Relay { mut source, putter } = job;
     for _ in 0..MOST_READS {
         let mut into = [0u8; 1];
         if let Got::Bytes(_) = source.read(&mut into) {
-            let _ = sink.write(&into);
+            begin(putter);
             return;
         }
     }
 }
 
-// Waits for nothing, and writes one byte.
-fn begin(mut sink: GateSink<MemSink>) {
+fn begin(job: Putter) {
+    let Putter { mut sink, .. } = job;
     let _ = sink.write(&[9]);
 }
 
@@ -62,8 +75,12 @@ fn relays<R: Threads + Wait + Drop + 'static>(
     crew: &mut Crew<R, u8>,
     number: u8,
 ) -> Result<bool, AllocError> {
-    let job = Relay::new(alloc, from, to)?;
-    Ok(crew.start(job, number, |job| pass_on(job)).is_ok())
+    let source = source_of(alloc, from)?;
+    let job = Relay {
+        source,
+        putter: put_through(alloc, to, number)?,
+    };
+    Ok(crew.start(job, number, |job: Relay| pass_on(job)).is_ok())
 }
 
 // Starts a job that writes a byte through a gate; whether it was started.
@@ -73,8 +90,8 @@ fn begins<R: Threads + Wait + Drop + 'static>(
     crew: &mut Crew<R, u8>,
     number: u8,
 ) -> Result<bool, AllocError> {
-    let sink = GateSink::new(MemSink::new(alloc, Vec::new(alloc)), gate.share()?);
-    Ok(crew.start(sink, number, |sink| begin(sink)).is_ok())
+    let job = put_through(alloc, gate, number)?;
+    Ok(crew.start(job, number, |job: Putter| begin(job)).is_ok())
 }
 
 // Starts a job that waits for what a second one writes, that one, and a third; whether the first two were started and the third refused.
