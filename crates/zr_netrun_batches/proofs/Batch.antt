@@ -1,5 +1,5 @@
 -- A session takes a batch of one transport message.
-use Rattle.std.proofs.Common.{◌≡◌, ◌∙◌, ap, refl, sym, subst, ℕ, ◌<◌, ◌^◌, false, List, [], ◌∷◌, ◌++◌, length, append-nil, Some, None, Ok, arith}
+use Rattle.std.proofs.Common.{◌≡◌, ◌∙◌, ap, refl, sym, subst, ℕ, ◌<◌, ◌^◌, false, List, [], ◌∷◌, ◌++◌, length, append-nil, None, Ok, arith}
 use Rattle.std.proofs.lemmas.List.{append_cancel_left}
 use Rattle.zr_frame_batch.specs.Framing.{framed}
 use Rattle.zr_frame_batch.proofs.Cutting.{framed_is}
@@ -12,7 +12,6 @@ use Rattle.zr_trans.specs.Trans.{MayStandBefore}
 use Rattle.zr_open.specs.declared.expected.Expected.{Expected}
 use Rattle.zr_open.specs.Opening.{OpeningState}
 use Rattle.zr_session.specs.declared.event.Fed.{Fed}
-use Rattle.zr_session.specs.declared.event.SessionEvent.{SessionEvent}
 use Rattle.zr_session.specs.declared.fate.Fate.{Fate}
 use Rattle.zr_session.specs.declared.fate.Fate.TheVariants as fate
 use Rattle.zr_session.specs.declared.fate.End.{End}

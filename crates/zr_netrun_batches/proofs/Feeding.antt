@@ -1,7 +1,6 @@
 -- A session reads on along its wire.
 use Rattle.std.proofs.Common.{◌≡◌, ◌∙◌, ap, refl, sym, subst, ℕ, Bool, true, false, List, [], ◌∷◌, ◌++◌, drop, append_assoc, append-nil, Option, Some, None, Result, Ok, Err}
 use Rattle.std.specs.Prelude.{slice_get, is_err, OnOk}
-use Rattle.std.specs.List.{flat_map}
 use Rattle.std.proofs.lemmas.List.{append_cancel_left}
 use Rattle.std.proofs.lemmas.Grind.{flat_map-append}
 use Rattle.zr_msg.specs.declared.msg.Msg.{Msg}
@@ -18,7 +17,7 @@ use Rattle.zr_session.specs.declared.state.State.{State}
 use Rattle.zr_session.specs.declared.state.State.TheVariants.{Running, Ended, Spent}
 use Rattle.zr_session.specs.Course.{Course, joined}
 use Rattle.zr_session.specs.Stream.{Comes}
-use Rattle.zr_session.specs.Session.{SessionState, Stands, Feeds, Gains, close_between}
+use Rattle.zr_session.specs.Session.{SessionState, Stands, Feeds}
 use Rattle.zr_session.proofs.Pieces.{comes_more, comes_ended, comes_some}
 use Rattle.zr_session.proofs.Calls.{comes_one}
 use Rattle.zr_netrun_batches.specs.Coming.{message_of, messages_in, course_of, coming_to, coming, Leads, Hears, GoesOn}

@@ -1,5 +1,5 @@
 -- Sessions open: of two routers, and of a client and a router.
-use Rattle.std.proofs.Common.{◌≡◌, ◌∙◌, ap, refl, sym, subst, ℕ, ◌+◌, ◌*◌, ◌-◌, ◌<◌, ◌≤◌, ◌^◌, Bool, true, false, cond, List, [], ◌∷◌, ◌++◌, length, length-append, append-nil, drop, Option, Some, None, Ok, Err, nat_lt, mod-lt, arith}
+use Rattle.std.proofs.Common.{◌≡◌, ◌∙◌, ap, refl, sym, subst, ℕ, ◌-◌, ◌<◌, ◌≤◌, ◌^◌, Bool, true, false, cond, List, [], ◌∷◌, ◌++◌, length, length-append, append-nil, drop, Option, Some, None, Ok, Err, nat_lt, mod-lt, arith}
 use Rattle.std.specs.Prelude.{if◌then◌else◌}
 use Rattle.std.proofs.lemmas.Bool.Decides.{nat_tests}
 use Rattle.sha2.proofs.Facts256.{length-sha256}
@@ -14,7 +14,7 @@ use Rattle.zr_trans.specs.declared.trans.Trans.{Trans}
 use Rattle.zr_trans.specs.declared.trans.Trans.TheVariants.{Init, Open}
 use Rattle.zr_trans.specs.Laws.{WrittenMessagesAreRead}
 use Rattle.zr_trans.specs.Reading.{trans_of}
-use Rattle.zr_trans.specs.Writing.{writes_trans, writes_speaks, writes_cookie, fields_of}
+use Rattle.zr_trans.specs.Writing.{writes_trans, writes_speaks}
 use Rattle.zr_msg.specs.Peer.{PeerState}
 use Rattle.zr_msg.specs.declared.peer.Role.TheVariants.{Client, Router}
 use Rattle.zr_frame.specs.Outbox.{OutboxState, IsOutbox}

@@ -5,7 +5,8 @@ use Rattle.std.proofs.lemmas.List.{append_cancel_left}
 use Rattle.zr_frame_batch.specs.Framing.{framed}
 use Rattle.zr_msg.specs.declared.msg.Msg.{Msg}
 use Rattle.zr_msg.specs.declared.peer.Role.{Role}
-use Rattle.zr_frame.specs.Outbox.{OutboxState}
+use Rattle.zr_frame.specs.Outbox.{OutboxState, advanced}
+use Rattle.zr_frame.specs.Packing.{Parcels, one_parcel}
 use Rattle.zr_frame_pack.specs.Packing.{parcels_of}
 use Rattle.zr_open.specs.declared.expected.Expected.{Expected}
 use Rattle.zr_open.specs.Opening.{OpeningState}
@@ -80,3 +81,12 @@ comes_on law box next bytes wire m messages batches one are after put role s may
     subst (λ z. Leads role next s z × (coming s z ≡ coming s bytes ++ m ∷ [])) (sym put)
     (message_sent law role box next s bytes (flat_map (λ batch. framed batch) batches) m h may (ap (λ z. flat_map (λ batch. framed batch) z) are)
     (after ∙ ap (λ z. (parcels_of box z).outbox) one))
+
+-- A FRAME of its own came behind the bytes on the wire.
+pub frame_comes : PackedMessagesAreReadBack → (box next : OutboxState) (bytes wire batch : List ℕ) (m : Msg) → parcels_of box (m ∷ []) ≡ one_parcel box batch →
+    next ≡ advanced box → wire ≡ bytes ++ framed batch → ComesOn box bytes m next wire
+frame_comes law box next bytes wire batch m one after put role s may h =
+    subst (λ z. Leads role next s z × (coming s z ≡ coming s bytes ++ m ∷ [])) (sym put)
+    (message_sent law role box next s bytes (framed batch) m h may
+    (sym (append-nil (framed batch)) ∙ sym (ap (λ (z : Parcels). flat_map (λ b. framed b) z.batches) one))
+    (after ∙ sym (ap (λ (z : Parcels). z.outbox) one)))

@@ -1,5 +1,5 @@
 -- Lists that are taken from the front, and messages beside their tags.
-use Rattle.std.proofs.Common.{◌≡◌, ◌∙◌, ap, refl, sym, subst, ℕ, zero, suc, ◌<◌, ◌≤◌, ◌==◌, Bool, true, false, not, List, [], ◌∷◌, ◌++◌, length, take, drop, Option, Some, None, Result, Ok, Err, arith}
+use Rattle.std.proofs.Common.{◌≡◌, ◌∙◌, ap, refl, sym, subst, ℕ, zero, suc, ◌<◌, ◌≤◌, ◌==◌, true, false, not, List, [], ◌∷◌, ◌++◌, length, map, take, drop, Option, Some, None, Result, Ok, Err, arith}
 use Rattle.std.proofs.lemmas.Bool.Decides.{nat_tests}
 use Rattle.std.specs.Prelude.{is_some, slice_get, IsSome, ◌↔◌}
 use Rattle.std.specs.List.{zip}
@@ -79,6 +79,12 @@ module _ {X Y : Type 0} where
   rest_long [] (y ∷ ys) e = absurd (omega (arith, e))
   rest_long (x ∷ xs) [] e = absurd (omega (arith, e))
   rest_long (x ∷ xs) (y ∷ ys) e = omega (arith, e)
+
+  pub zip_firsts : (xs : List X) (ys : List Y) → length ys ≡ length xs → map (λ x. x.0) (zip xs ys) ≡ xs
+  zip_firsts [] [] e = refl
+  zip_firsts [] (y ∷ ys) e = refl
+  zip_firsts (x ∷ xs) [] e = absurd (omega (arith, e))
+  zip_firsts (x ∷ xs) (y ∷ ys) e = ap (λ z. x ∷ z) (zip_firsts xs ys (omega (arith, e)))
 
   pub zip_some : (xs : List X) (ys : List Y) → length ys ≡ length xs → not (length ys == 0) ≡ is_some (slice_get (zip xs ys) 0)
   zip_some [] [] e = refl

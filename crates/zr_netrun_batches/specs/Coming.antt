@@ -1,5 +1,5 @@
 -- The messages that come of the bytes on a wire.
-use Rattle.std.specs.Prelude.{◌≡◌, ℕ, Bool, true, false, List, [], ◌∷◌, ◌++◌, None}
+use Rattle.std.specs.Prelude.{◌≡◌, ℕ, List, [], ◌∷◌, ◌++◌, None}
 use Rattle.std.specs.List.{flat_map}
 use Rattle.zr_msg.specs.declared.msg.Msg.{Msg}
 use Rattle.zr_msg.specs.declared.peer.Role.{Role}
@@ -42,6 +42,10 @@ coming_to o Spent kept bytes = []
 -- the messages that a session has not given yet, of what it has kept and the bytes on its wire
 abbrev pub coming : SessionState → List ℕ → List Msg
 coming s bytes = coming_to s.opening s.state s.kept bytes
+
+-- messages of which a session has given some, and the others are what bytes come to
+abbrev pub IsLeftOf : List Msg → List ℕ → Type 0
+IsLeftOf messages bytes = (s : SessionState) × (given : List Msg) × (messages ≡ given ++ coming s bytes)
 
 -- ---- a wire
 

@@ -1,9 +1,11 @@
 //! `Batches`: messages as real batches, through real sessions.
 
-ghost use Rattle.std.specs.Prelude.{◌≡◌, OnOk, OnErr, None, Some, ℕ, List};
-ghost use Rattle.zr_carrier.specs.Wire.{AreSame, AreSameBut, Opens, Sets, new_wire};
+ghost use Rattle.std.specs.Prelude.{◌≡◌, OnOk, OnErr, IfNone, IfSome, None, Some, map, ℕ, List};
+ghost use Rattle.zr_carrier.specs.Wire.{AreSame, AreSameBut, Opens, Sets, Wire, new_wire};
+ghost use Rattle.zr_netrun_batches.specs.Coming.{IsLeftOf};
 
 use crate::opening::{between_routers, from_client};
+use crate::scratch::Scratch;
 use crate::way::Way;
 use std::alloc::{AllocError, Global};
 use std::collections::BTreeMap;
@@ -17,6 +19,7 @@ use zr_msg::peer::Role;
 pub struct Batches {
     alloc: Global,
     ways: BTreeMap<(Zid, Zid), Way>,
+    scratch: Scratch,
 }
 
 impl Batches {
@@ -29,6 +32,19 @@ impl Batches {
         Batches {
             alloc,
             ways: BTreeMap::new(alloc),
+            scratch: Scratch::new(alloc),
+        }
+    }
+
+    /// The bytes on the wire from one to another that were not read, batches behind their lengths: to these the messages on it come. None where there is no
+    /// wire.
+    pub fn bytes(&self, from: Zid, to: Zid) -> Option<&[u8]>
+        ensures some { IfSome result (λ b. (w : Wire) × (wires_in self.now.ways from to ≡ Some w) × IsLeftOf (map (λ x. x.0) w.waiting) b.now) }
+        ensures none { IfNone result (wires_in self.now.ways from to ≡ None) }
+    {
+        match self.ways.get(&(from, to)) {
+            Some(way) => Some(way.bytes()),
+            None => None,
         }
     }
 
@@ -96,7 +112,7 @@ impl Carrier for Batches {
 
     fn send(&mut self, from: Zid, to: Zid, msg: &Msg, tag: u64) -> Result<(), AllocError> {
         match self.ways.get_mut(&(from, to)) {
-            Some(way) => way.send(msg, tag),
+            Some(way) => way.send(&mut self.scratch, msg, tag),
             None => Ok(()),
         }
     }
@@ -110,7 +126,7 @@ impl Carrier for Batches {
 
     fn receive(&mut self, from: Zid, to: Zid) -> Result<Option<(Msg, u64)>, AllocError> {
         match self.ways.get_mut(&(from, to)) {
-            Some(way) => way.receive(),
+            Some(way) => way.receive(&mut self.scratch),
             None => Ok(None),
         }
     }

@@ -5,6 +5,7 @@ pub mod batches;
 mod line;
 mod opening;
 mod reading;
+mod scratch;
 mod tape;
 mod way;
 mod writing;

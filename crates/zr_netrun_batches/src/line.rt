@@ -2,10 +2,11 @@
 
 ghost use Rattle.std.specs.Prelude.{◌≡◌, [], slice_get, IfOk, OnOk, OnErr};
 ghost use Rattle.zr_wire.specs.Sending.{MayBeSent};
-ghost use Rattle.zr_netrun_batches.specs.Coming.{Leads};
+ghost use Rattle.zr_netrun_batches.specs.Coming.{IsLeftOf, Leads};
 ghost use Rattle.zr_netrun_batches.specs.Line.{new_line, with_sent, without_first};
 
 use crate::reading::read_on;
+use crate::scratch::Scratch;
 use crate::tape::Tape;
 use crate::writing::write;
 use std::alloc::{AllocError, Global};
@@ -63,7 +64,7 @@ impl Line {
     }
 
     /// A message is sent.
-    pub fn send(&mut self, msg: &Msg) -> Result<(), AllocError>
+    pub fn send(&mut self, scratch: &mut Scratch, msg: &Msg) -> Result<(), AllocError>
         requires { MayBeSent self.old.role msg.now }
         ensures sent { OnOk result (self.new ≡ with_sent self.old msg.now) }
         ensures err { OnErr result (self.new ≡ new_line self.old.role) }
@@ -71,7 +72,7 @@ impl Line {
         if self.spent {
             return Err(AllocError);
         }
-        let sent = write(self.alloc, &mut self.outbox, &mut self.wire, msg);
+        let sent = write(self.alloc, &mut self.outbox, &mut self.wire, scratch, msg);
         if sent.is_err() {
             self.spent = true;
         }
@@ -79,7 +80,7 @@ impl Line {
     }
 
     /// The oldest message is received.
-    pub fn receive(&mut self) -> Result<Option<Msg>, AllocError>
+    pub fn receive(&mut self, scratch: &mut Scratch) -> Result<Option<Msg>, AllocError>
         ensures value { IfOk result (λ m. m ≡ slice_get self.old.messages 0) }
         ensures rest { OnOk result (self.new ≡ without_first self.old) }
         ensures err { OnErr result (self.new ≡ new_line self.old.role) }
@@ -88,9 +89,9 @@ impl Line {
             return Ok(None);
         }
         let read = read_on(
-            self.alloc,
             &mut self.session,
             &mut self.wire,
+            &mut scratch.fed,
             &mut self.ready,
             &mut self.last,
         );
@@ -99,6 +100,16 @@ impl Line {
             return Err(AllocError);
         }
         Ok(self.ready.pop_front())
+    }
+
+    /// The bytes on the wire. The messages that are left are some that a session has given, and what these bytes come to.
+    pub fn bytes(&self) -> &[u8]
+        ensures { IsLeftOf self.now.messages result.now }
+    {
+        if self.spent {
+            return &[];
+        }
+        self.wire.left()
     }
 
     /// All that was sent is lost, and no message comes from then on.

@@ -4,9 +4,8 @@ ghost use Rattle.std.specs.Prelude.{◌≡◌, ◌+◌, ◌%◌, ◌++◌, [], O
 ghost use Rattle.zr_netrun_batches.specs.Coming.{GoesOn, Hears, messages_in};
 
 use crate::tape::Tape;
-use std::alloc::{AllocError, Global};
+use std::alloc::AllocError;
 use std::collections::VecDeque;
-use std::mem;
 use zr_msg::msg::Msg;
 use zr_session::{Fed, Session, SessionEvent};
 
@@ -18,9 +17,9 @@ pub const NOW: u64 = 0;
 
 /// Feeds a session until it has given a message, or the wire is empty. `last` is how long the piece before was.
 pub fn read_on(
-    alloc: Global,
     session: &mut Session,
     wire: &mut Tape,
+    fed: &mut Fed,
     ready: &mut VecDeque<Msg>,
     last: &mut usize,
 ) -> Result<(), AllocError>
@@ -34,7 +33,7 @@ pub fn read_on(
         *last = next_length(*last);
         let piece = wire.front(*last);
         let count = piece.len();
-        feed(alloc, session, piece, ready)?;
+        feed(session, piece, fed, ready)?;
         wire.pass(count);
     }
     Ok(())
@@ -49,23 +48,22 @@ fn next_length(last: usize) -> usize
 
 // Feeds a session a piece, and puts the messages that it gives behind others.
 fn feed(
-    alloc: Global,
     session: &mut Session,
     piece: &[u8],
+    fed: &mut Fed,
     ready: &mut VecDeque<Msg>,
 ) -> Result<(), AllocError>
     ensures { OnOk result (Hears session.old session.new piece.now ready.old.items ready.new.items) }
 {
-    let mut fed = Fed::new(alloc);
-    session.feed(piece, NOW, &mut fed)?;
-    let events = mem::replace(&mut fed.events, Vec::new(alloc));
-    put_messages(events, ready)
+    fed.events.clear();
+    session.feed(piece, NOW, fed)?;
+    put_messages(&mut fed.events, ready)
 }
 
-fn put_messages(events: Vec<SessionEvent>, ready: &mut VecDeque<Msg>) -> Result<(), AllocError>
-    ensures { OnOk result (ready.new.items ≡ ready.old.items ++ messages_in events.items) }
+fn put_messages(events: &mut Vec<SessionEvent>, ready: &mut VecDeque<Msg>) -> Result<(), AllocError>
+    ensures { OnOk result (ready.new.items ≡ ready.old.items ++ messages_in events.old.items) }
 {
-    for event in events {
+    for event in events.drain(..) {
         match event {
             SessionEvent::Message(msg) => ready.push_back(msg)?,
             SessionEvent::Opened(_, _) => {}

@@ -7,7 +7,7 @@ ghost use Rattle.zr_frame_batch.specs.Framing.{framed};
 use std::alloc::{AllocError, Global};
 use std::marker::Model;
 use zr_bytes::ByteString;
-use zr_frame_batch::put_batch;
+use zr_frame_batch::{put_batch, put_parts};
 
 /// Contracts see the bytes that were not read.
 #[derive(Drop)]
@@ -54,14 +54,33 @@ impl Tape {
         put_batches(&mut self.bytes, batches)
     }
 
-    // The memory of bytes that were read is used again, where all were.
+    /// A batch comes behind them, behind its length, whose parts are these.
+    pub fn put_frame(&mut self, head: &[u8], message: &[u8]) -> Result<(), AllocError>
+        requires { length (head.now ++ message.now) < 2 ^ 16 }
+        ensures { OnOk result (self.new ≡ self.old ++ framed (head.now ++ message.now)) }
+    {
+        self.let_go();
+        put_parts(&mut self.bytes, head, message)
+    }
+
+    // The memory of bytes that were read is used again, once they are no fewer than the others. So no more bytes are ever moved than were read.
     fn let_go(&mut self)
         ensures { self.new ≡ self.old }
     {
-        if self.bytes.len() == self.read {
-            self.bytes.clear();
-            self.read = 0;
+        let left = self.bytes.len() - self.read;
+        if self.read < left {
+            return;
         }
+        self.bytes.copy_within(self.read.., 0);
+        self.bytes.truncate(left);
+        self.read = 0;
+    }
+
+    /// All bytes that were not read.
+    pub fn left(&self) -> &[u8]
+        ensures { result.now ≡ self.now }
+    {
+        &self.bytes[self.read..]
     }
 
     /// The next bytes, so many at most.

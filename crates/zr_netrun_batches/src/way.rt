@@ -1,13 +1,15 @@
 //! One direction of a link, with the tags of its messages, which no bytes tell.
 
-ghost use Rattle.std.specs.Prelude.{◌≡◌, ◌++◌, ◌∷◌, [], is_some, slice_get, IfOk, OnOk, OnErr};
+ghost use Rattle.std.specs.Prelude.{◌≡◌, ◌++◌, ◌∷◌, [], is_some, map, slice_get, IfOk, OnOk, OnErr};
 ghost use Rattle.std.specs.Option.{option_zip};
 ghost use Rattle.zr_wire.specs.Sending.{MayBeSent};
 ghost use Rattle.zr_carrier.specs.Wire.{emptied, with_message, without_oldest};
+ghost use Rattle.zr_netrun_batches.specs.Coming.{IsLeftOf};
 ghost use Rattle.zr_netrun_batches.specs.Line.{with_sent};
 ghost use Rattle.zr_netrun_batches.specs.Way.{wire_of};
 
 use crate::line::Line;
+use crate::scratch::Scratch;
 use std::alloc::{AllocError, Global};
 use std::collections::VecDeque;
 use std::marker::Model;
@@ -45,12 +47,12 @@ impl Way {
     }
 
     /// A message is sent with its tag. Where memory runs out, what was on the wire is lost.
-    pub fn send(&mut self, msg: &Msg, tag: u64) -> Result<(), AllocError>
+    pub fn send(&mut self, scratch: &mut Scratch, msg: &Msg, tag: u64) -> Result<(), AllocError>
         requires { MayBeSent self.old.role msg.now }
         ensures sent { OnOk result (self.new ≡ with_message self.old msg.now tag) }
         ensures err { OnErr result (self.new ≡ emptied self.old) }
     {
-        let sent = send(&mut self.line, &mut self.tags, msg, tag);
+        let sent = send(&mut self.line, &mut self.tags, scratch, msg, tag);
         if sent.is_err() {
             self.line.lose();
             self.tags.clear();
@@ -59,18 +61,25 @@ impl Way {
     }
 
     /// The oldest message is received, with its tag. Where memory runs out, what was on the wire is lost.
-    pub fn receive(&mut self) -> Result<Option<(Msg, u64)>, AllocError>
+    pub fn receive(&mut self, scratch: &mut Scratch) -> Result<Option<(Msg, u64)>, AllocError>
         ensures value { IfOk result (λ x. x ≡ slice_get self.old.waiting 0) }
         ensures rest { OnOk result (self.new ≡ without_oldest self.old) }
         ensures err { OnErr result (self.new ≡ emptied self.old) }
     {
-        match self.line.receive() {
+        match self.line.receive(scratch) {
             Ok(received) => Ok(tagged(received, self.tags.pop_front())),
             Err(AllocError) => {
                 self.tags.clear();
                 Err(AllocError)
             }
         }
+    }
+
+    /// The bytes on the wire, to which its messages come.
+    pub fn bytes(&self) -> &[u8]
+        ensures { IsLeftOf (map (λ x. x.0) self.now.waiting) result.now }
+    {
+        self.line.bytes()
     }
 
     /// Whether a message is on the wire.
@@ -82,13 +91,19 @@ impl Way {
 }
 
 // A message is sent on a line, and its tag is kept.
-fn send(line: &mut Line, tags: &mut VecDeque<u64>, msg: &Msg, tag: u64) -> Result<(), AllocError>
+fn send(
+    line: &mut Line,
+    tags: &mut VecDeque<u64>,
+    scratch: &mut Scratch,
+    msg: &Msg,
+    tag: u64,
+) -> Result<(), AllocError>
     requires { MayBeSent line.old.role msg.now }
     ensures line { OnOk result (line.new ≡ with_sent line.old msg.now) }
     ensures tags { OnOk result (tags.new.items ≡ tags.old.items ++ tag ∷ []) }
     ensures role { line.new.role ≡ line.old.role }
 {
-    line.send(msg)?;
+    line.send(scratch, msg)?;
     tags.push_back(tag)?;
     Ok(())
 }

@@ -1,4 +1,4 @@
-use Rattle.std.proofs.Common.{◌≡◌, ◌<◌, ◌≤◌, sym, subst, length, arith}
+use Rattle.std.proofs.Common.{◌<◌, ◌≤◌, sym, subst, length, arith}
 use Rattle.std.proofs.lemmas.Bool.Decides.{nat_tests}
 use Rattle.zr_netrun_batches.proofs.Feeding.{goes_nowhere, goes_more}
 use Rattle.zr_netrun_batches.proofs.Tags.{front_within, split_front, rest_smaller}
