@@ -10,7 +10,7 @@ use zr_msg::peer::Role;
 
 /// Wires, each from one name to another. On a wire messages keep their order, and none is lost but where memory runs out. A router has a wire to it from
 /// each neighbour. What it sends to a client is not carried, so there is no wire to a client.
-pub trait Carrier {
+pub trait Carrier: Drop {
     // the wire from one to another, where there is one
     ghost wire: { Self → List ℕ → List ℕ → Option Wire };
 
