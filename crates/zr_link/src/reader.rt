@@ -13,6 +13,7 @@ ghost use Rattle.zr_outside_crew.specs.Told.{with_last};
 ghost use Rattle.zr_ring.specs.Taker.{taker_name};
 ghost use Rattle.zr_session.specs.declared.fate.Fate.TheVariants as fates;
 ghost use Rattle.zr_session.specs.Session.{is_running, with_confirmed, owed_bytes};
+ghost use Rattle.zr_ring.specs.Taker.{taken};
 ghost use Rattle.zr_wire.specs.Writing.{IsSpelled};
 ghost use Rattle.zr_link.specs.declared.end.LinkEnd.TheVariants as end;
 ghost use Rattle.zr_link.specs.Acts.{Act, Does};
@@ -50,8 +51,10 @@ use zr_outside::clock::Clock;
 use zr_outside::log::Log;
 use zr_outside::sink::{Sink, write_all};
 use zr_outside::source::Source;
+use zr_outside_brief::BriefSink;
 use zr_outside_crew::Crew;
 use zr_port::{DeliverError, Entry, Port, UpError};
+use zr_port_outlet::Outlets;
 use zr_ring::Taker;
 use zr_session::{Fate, Session, SessionEvent};
 
@@ -76,8 +79,8 @@ impl Reader {
     /// its messages the log's rules deny.
     pub fn run<
         S: Source,
-        K: Sink + Send + Drop + 'static,
-        P: Port + Send + Sync + Drop + 'static,
+        K: BriefSink + Send + Drop + 'static,
+        P: Outlets<Out = K> + Send + Sync + Drop + 'static,
         C: Clock + Send + Drop + 'static,
         L: Log + Send + Drop + 'static,
         R: Threads + Drop,
@@ -147,8 +150,8 @@ impl Reader {
 // The session has opened: brings the link up, and goes on until the link goes down.
 fn enter<
     S: Source,
-    K: Sink + Send + Drop + 'static,
-    P: Port + Send + Sync + Drop + 'static,
+    K: BriefSink + Send + Drop + 'static,
+    P: Outlets<Out = K> + Send + Sync + Drop + 'static,
     C: Clock + Send + Drop + 'static,
     L: Log + Send + Drop + 'static,
     R: Threads + Drop,
@@ -289,8 +292,8 @@ fn follow<S: Source, P: Port, C: Clock, L: Log + Drop>(
 
 // The link is up: writes the answer to OPEN, and starts the writer. Where that fails the sink comes back.
 fn begin<
-    K: Sink + Send + Drop + 'static,
-    P: Port + Send + Sync + Drop + 'static,
+    K: BriefSink + Send + Drop + 'static,
+    P: Outlets<Out = K> + Send + Sync + Drop + 'static,
     C: Clock + Send + Drop + 'static,
     L: Log + Send + Drop + 'static,
     R: Threads + Drop,
@@ -306,6 +309,7 @@ fn begin<
 where
     P::Note: Send + 'static,
     requires ring { (taker_name taker).link ≡ link }
+    requires fresh { taken taker ≡ [] }
     ensures early { IfErr result (λ e. IsEarly e.0) }
     ensures same { OnOk result (intake.new.session ≡ with_confirmed intake.old.session) }
     ensures handed { OnOk result (HandsOn (λ k. K.held k) (λ k. K.faults k) (intake.old.fed.bytes.items ++ owed_bytes intake.old.session) out.sink) }

@@ -37,8 +37,10 @@ use zr_outside::clock::Clock;
 use zr_outside::log::Log;
 use zr_outside::sink::{Sink, write_all};
 use zr_outside::source::Source;
+use zr_outside_brief::BriefSink;
 use zr_outside_crew::{Crew, Job};
 use zr_port::{Entry, Port};
+use zr_port_outlet::Outlets;
 use zr_session::Session;
 
 /// What the thread of a link's reader owns: its job, both ways of the link, a clock and a log for it and for the writer that it starts, the port at
@@ -107,10 +109,10 @@ pub struct TurnedAway<K: Sink + Drop, L: Log + Drop> {
 #[tactic(auto, using(crate::proofs::Starting::starts_one))]
 pub fn hand_over<
     S: Source + Send + Drop + 'static,
-    K: Sink + Send + Drop + 'static,
+    K: BriefSink + Send + Drop + 'static,
     C: Clock + Send + Drop + 'static,
     L: Log + Send + Drop + 'static,
-    P: Port + Send + Sync + Drop + 'static,
+    P: Outlets<Out = K> + Send + Sync + Drop + 'static,
     R: Threads + Copy + Send + Sync + Drop + 'static,
 >(crew: &mut Crew<R, ServeJob>, reading: Reading<S, K, C, L, P, R>) -> Result<(), TurnedAway<K, L>>
 where
@@ -189,10 +191,10 @@ impl<
 // Runs the reader of a link. How it ended is seen by the peer and the log alone.
 fn read<
     S: Source + Drop,
-    K: Sink + Send + Drop + 'static,
+    K: BriefSink + Send + Drop + 'static,
     C: Clock + Send + Drop + 'static,
     L: Log + Send + Drop + 'static,
-    P: Port + Send + Sync + Drop + 'static,
+    P: Outlets<Out = K> + Send + Sync + Drop + 'static,
     R: Threads + Drop,
 >(hearing: Hearing<S, K, C, L, P, R>)
 where
@@ -204,10 +206,10 @@ where
 // Hears the link to its end, in as many reads as its job has; its log is told of it.
 fn heard<
     S: Source + Drop,
-    K: Sink + Send + Drop + 'static,
+    K: BriefSink + Send + Drop + 'static,
     C: Clock + Send + Drop + 'static,
     L: Log + Send + Drop + 'static,
-    P: Port + Send + Sync + Drop + 'static,
+    P: Outlets<Out = K> + Send + Sync + Drop + 'static,
     R: Threads + Drop,
 >(hearing: Hearing<S, K, C, L, P, R>) -> Outcome<S, C, L>
 where
@@ -262,10 +264,10 @@ where
 #[tactic(auto, using(crate::proofs::Beginning::is_begun))]
 fn hear<
     S: Source,
-    K: Sink + Send + Drop + 'static,
+    K: BriefSink + Send + Drop + 'static,
     C: Clock + Send + Drop + 'static,
     L: Log + Send + Drop + 'static,
-    P: Port + Send + Sync + Drop + 'static,
+    P: Outlets<Out = K> + Send + Sync + Drop + 'static,
     R: Threads + Drop,
 >(
     alloc: Global,

@@ -3,7 +3,7 @@ use Rattle.std.proofs.Common.{◌≡◌, ℕ, ◌+◌, ◌*◌, ◌≤◌, inl, 
 use Rattle.std.proofs.lemmas.List.{append-nil}
 use Rattle.zr_frame_batch.specs.Framing.{framed}
 use Rattle.zr_outside.specs.Told.{Appends, AppendsPrefix}
-use Rattle.zr_outside.proofs.Appending.{prefix_more, appends_nothing_more}
+use Rattle.zr_outside.proofs.Appending.{appends_nothing_more, prefix_more, prefix_none, prefix_whole}
 use Rattle.zr_ring.specs.declared.parcel.Note.{Ghosts}
 use Rattle.zr_ring.specs.declared.parcel.Parcel.{Parcel}
 use Rattle.zr_ring.specs.declared.parcel.Ending.{Ending}
@@ -14,7 +14,7 @@ use Rattle.zr_ring.specs.Taker.{TakesEnd}
 use Rattle.zr_ring.proofs.Items.{end_of_one}
 use Rattle.zr_link_writer.specs.Parts.{Part, parcel, keep_alive, keep_alive_bytes, bytes_of_part, text_of, parcels_of, keep_alives, close_bytes, bodies}
 use Rattle.zr_link_writer.specs.Writing.{keep_alive_ms, Carries, Rests, Fails, Writes, Goes}
-use Rattle.zr_link_writer.proofs.Carrying.{carries_then, carries_all, carries_prefix, carries_flushed, carries_sent, carries_joined}
+use Rattle.zr_link_writer.proofs.Carrying.{carries_put, carries_then, carries_all, carries_prefix, carries_flushed, carries_sent, carries_joined, carries_on}
 
 -- ---- one part more
 
@@ -74,7 +74,6 @@ module _ {N : Type 0} {g : Ghosts N} where
     items = [];
     parts = [];
     taken = sym (append-nil before);
-    no_end = refl;
     in_order = refl;
     seldom = omega (arith, le);
     carried = carries_joined [] held;
@@ -88,7 +87,6 @@ module _ {N : Type 0} {g : Ghosts N} where
     items = h.items ++ One p ∷ [];
     parts = h.parts ++ parcel p.bytes ∷ [];
     taken = taken_last before after h.items after' (One p) h.taken is;
-    no_end = ap end_of is ∙ (end_of_one after p ∙ h.no_end);
     in_order = parcels_last h.parts p.bytes ∙ (ap (λ z. z ++ p.bytes ∷ []) h.in_order ∙ sym (bodies_last h.items p));
     seldom = no_later start (keep_alives h.parts) _ moment later (alives_same h.parts p.bytes) h.seldom le;
     carried = rw (text_last h.parts (parcel p.bytes))
@@ -103,7 +101,6 @@ module _ {N : Type 0} {g : Ghosts N} where
     items = h.items;
     parts = h.parts;
     taken = is ∙ h.taken;
-    no_end = ap end_of is ∙ h.no_end;
     in_order = h.in_order;
     seldom = no_later start (keep_alives h.parts) _ moment later refl h.seldom le;
     carried = carries_flushed held now now' waiting (text_of h.parts) h.carried wrote;
@@ -112,11 +109,22 @@ module _ {N : Type 0} {g : Ghosts N} where
     items = h.items;
     parts = h.parts ++ keep_alive ∷ [];
     taken = is ∙ h.taken;
-    no_end = ap end_of is ∙ h.no_end;
     in_order = parcels_same h.parts ∙ h.in_order;
     seldom = one_more start (keep_alives h.parts) _ moment later (alives_last h.parts) h.seldom wrote.1;
     carried = rw (text_last h.parts keep_alive)
         (carries_sent held now now' (text_of h.parts) keep_alive_bytes (subst (λ w. Carries held now w (text_of h.parts)) wrote.0 h.carried) wrote.2);
+  }
+
+  -- what waited was written or waits, and nothing was taken
+  pub goes_carried : (before after : List (Item N g)) (start moment : ℕ) (waiting waiting' : List ℕ) (held now now' : Option (List ℕ))
+      → Goes before after start moment waiting held now → Carries now now' waiting' waiting → Goes before after start moment waiting' held now'
+  goes_carried before after start moment waiting waiting' held now now' h more = record {
+    items = h.items;
+    parts = h.parts;
+    taken = h.taken;
+    in_order = h.in_order;
+    seldom = h.seldom;
+    carried = carries_on held now now' waiting waiting' (text_of h.parts) h.carried more;
   }
 
   -- ---- at the end of a call
@@ -224,3 +232,78 @@ module _ {N : Type 0} {g : Ghosts N} where
   turns_part before after start moment later waiting close held now now' h wrote le =
       at_turns before after start moment later waiting close held now (λ text. AppendsPrefix text held now') h
       (carries_prefix held now now' waiting (text_of h.parts) close h.carried (prefix_more waiting close now now' wrote)) le
+
+  -- ---- in steps of an outlet
+
+  -- the whole is a prefix of itself
+  pub writes_prefix : (before after : List (Item N g)) (start end : ℕ) (close : List ℕ) (held now : Option (List ℕ))
+      → Writes before after start end close (λ text. Appends text held now) → Writes before after start end close (λ text. AppendsPrefix text held now)
+  writes_prefix before after start end close held now w = record {
+    items = w.items;
+    parts = w.parts;
+    taken = w.taken;
+    in_order = w.in_order;
+    seldom = w.seldom;
+    written = prefix_whole (text_of w.parts ++ close) held now w.written;
+  }
+
+  -- the time has gone on since it ended
+  pub writes_later : (before after : List (Item N g)) (start end later : ℕ) (close : List ℕ) (IsWritten : List ℕ → Type 0)
+      → Writes before after start end close IsWritten → end ≤ later → Writes before after start later close IsWritten
+  writes_later before after start end later close IsWritten w le = record {
+    items = w.items;
+    parts = w.parts;
+    taken = w.taken;
+    in_order = w.in_order;
+    seldom = no_later start (keep_alives w.parts) _ end later refl w.seldom le;
+    written = w.written;
+  }
+
+  -- the end was taken, and is left to the writer
+  pub goes_end : (before after after' : List (Item N g)) (start moment given : ℕ) (waiting : List ℕ) (held now : Option (List ℕ)) (reason : Option ℕ)
+      → Goes before after start moment waiting held now → TakesEnd after after' reason given → Goes before after' start moment waiting held now
+  goes_end before after after' start moment given waiting held now reason h takes =
+      let all = at_end before after after' h.items reason given h.taken takes in record {
+        items = all.0;
+        parts = h.parts;
+        taken = all.1;
+        in_order = h.in_order ∙ sym all.2;
+        seldom = h.seldom;
+        carried = h.carried;
+      }
+
+  -- a parcel was taken and waits, not joined, behind what waits
+  pub goes_apart : (before after after' : List (Item N g)) (start moment : ℕ) (waiting waiting' : List ℕ) (held now now' : Option (List ℕ))
+      (p : Parcel N g) → Goes before after start moment waiting held now → after' ≡ after ++ One p ∷ []
+      → Carries now now' waiting' waiting → Goes before after' start moment (waiting' ++ framed p.bytes) held now'
+  goes_apart before after after' start moment waiting waiting' held now now' p h is more =
+      goes_parcel before after after' start moment moment waiting (waiting' ++ framed p.bytes) held now now' p h is
+      (carries_put waiting waiting' (framed p.bytes) now now' more) (omega arith)
+
+  -- a write failed behind some that was written, and a parcel may have been taken
+  pub stops_apart : (before after after' : List (Item N g)) (start moment : ℕ) (waiting waiting' close : List ℕ) (held now now' : Option (List ℕ))
+      (p : Parcel N g) → Goes before after start moment waiting held now → after' ≡ after ++ One p ∷ []
+      → Carries now now' waiting' waiting → Writes before after' start moment close (λ text. AppendsPrefix text held now')
+  stops_apart before after after' start moment waiting waiting' close held now now' p h is more =
+      turns_part before after' start moment moment (waiting' ++ framed p.bytes) close held now' now'
+      (goes_apart before after after' start moment waiting waiting' held now now' p h is more) (prefix_none (waiting' ++ framed p.bytes) now') (omega arith)
+
+  pub stops_waiting : (before after after' : List (Item N g)) (start moment : ℕ) (waiting waiting' close : List ℕ) (held now now' : Option (List ℕ))
+      → Goes before after start moment waiting held now → after' ≡ after
+      → Carries now now' waiting' waiting → Writes before after' start moment close (λ text. AppendsPrefix text held now')
+  stops_waiting before after after' start moment waiting waiting' close held now now' h is more =
+      subst (λ z. Writes before z start moment close (λ text. AppendsPrefix text held now')) (sym is)
+      (turns_part before after start moment moment waiting' close held now' now'
+      (goes_carried before after start moment waiting waiting' held now now' h more) (prefix_none waiting' now') (omega arith))
+
+  -- time goes on
+  pub goes_later : (before after : List (Item N g)) (start moment later : ℕ) (waiting : List ℕ) (held now : Option (List ℕ))
+      → Goes before after start moment waiting held now → moment ≤ later → Goes before after start later waiting held now
+  goes_later before after start moment later waiting held now h le = record {
+    items = h.items;
+    parts = h.parts;
+    taken = h.taken;
+    in_order = h.in_order;
+    seldom = no_later start (keep_alives h.parts) _ moment later refl h.seldom le;
+    carried = h.carried;
+  }

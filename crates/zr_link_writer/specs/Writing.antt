@@ -4,7 +4,7 @@ use Rattle.zr_outside.specs.Told.{Appends, AppendsPrefix}
 use Rattle.zr_ring.specs.declared.parcel.Note.{Ghosts}
 use Rattle.zr_ring.specs.declared.parcel.Item.{Item}
 use Rattle.zr_ring.specs.Items.{end_of}
-use Rattle.zr_link_writer.specs.Parts.{Part, keep_alive_bytes, text_of, parcels_of, keep_alives, bodies}
+use Rattle.zr_link_writer.specs.Parts.{Part, keep_alive_bytes, text_of, parcels_of, keep_alives, close_bytes, bodies}
 
 -- how many milliseconds go by without a write before a KEEP_ALIVE
 abbrev pub keep_alive_ms : ℕ
@@ -44,7 +44,16 @@ module _ {N : Type 0} {g : Ghosts N} where
     pub items : List (Item N g)
     pub parts : List Part
     pub taken : after ≡ before ++ items
-    pub no_end : end_of after ≡ end_of before
     pub in_order : parcels_of parts ≡ bodies items
     pub seldom : start + keep_alives parts * keep_alive_ms ≤ end
     pub carried : Carries held now waiting (text_of parts)
+
+  -- A step goes on: whatever the call began with, it has gone so far before the step, and so far behind it.
+  abbrev pub GoesOn : List (Item N g) → List (Item N g) → ℕ → ℕ → List ℕ → List ℕ → Option (List ℕ) → Option (List ℕ) → Type 0
+  GoesOn was is moment later waiting waiting' now now' = (before : List (Item N g)) (start : ℕ) (held : Option (List ℕ))
+      → Goes before was start moment waiting held now → Goes before is start later waiting' held now'
+
+  -- A step ends the call: whatever it began with, this is true of what was held then and of the bytes of all parts with the CLOSE behind them.
+  abbrev pub EndsIn : List (Item N g) → List (Item N g) → ℕ → ℕ → List ℕ → Option (List ℕ) → (Option (List ℕ) → List ℕ → Type 0) → Type 0
+  EndsIn was is moment later waiting now IsWritten = (before : List (Item N g)) (start : ℕ) (held : Option (List ℕ))
+      → Goes before was start moment waiting held now → Writes before is start later (close_bytes (end_of is)) (λ text. IsWritten held text)

@@ -1,19 +1,22 @@
 //! Parcels that are joined until they are written.
 
-ghost use Rattle.std.specs.Prelude.{◌≡◌, ◌≤◌, ◌<◌, ◌+◌, ◌++◌, ◌⊎◌, ◌^◌, [], Some, length, OnOk, OnErr, IfErr, Err};
+ghost use Rattle.std.specs.Prelude.{◌≡◌, ◌≤◌, ◌<◌, ◌+◌, ◌++◌, ◌⊎◌, ◌^◌, [], Some, length, drop, true, OnOk, OnErr, IfErr, Err};
 ghost use Rattle.zr_frame_batch.specs.Framing.{framed};
 ghost use Rattle.zr_outside.specs.Counts.{Rose};
 ghost use Rattle.zr_outside.specs.Told.{Appends, AppendsPrefix};
 ghost use Rattle.zr_link_writer.specs.Parts.{keep_alive_bytes, close_bytes};
+ghost use Rattle.zr_link_writer.specs.Step.{AddsSo, FaultsSo};
 ghost use Rattle.zr_link_writer.specs.Writing.{Carries, Rests, Fails, most_joined};
 ghost use Rattle.zr_link_writer.specs.declared.end.Stop.TheVariants.{Fault};
 
 use crate::close::close_batch;
 use crate::end::Stop;
+use crate::turn::Wrote;
 use std::alloc::Global;
 use zr_frame_batch::put_parts;
 use zr_outside::clock::Clock;
 use zr_outside::sink::{Sink, write_all};
+use zr_outside_brief::{Brief, BriefSink};
 
 /// The most bytes that are joined into one write: as many as the longest batch has with its length.
 const MOST_JOINED: usize = 65_537;
@@ -41,9 +44,17 @@ impl Joined {
         ensures empty { result.bytes.items ≡ [] }
         ensures now { (C.last clock.old ≤ result.moment) × (result.moment ≡ C.last clock.new) }
     {
+        Joined::at(alloc, clock.now())
+    }
+
+    /// Nothing waits, and the time to a KEEP_ALIVE begins at this moment.
+    pub(crate) fn at(alloc: Global, moment: u64) -> Joined
+        ensures empty { result.bytes.items ≡ [] }
+        ensures now { result.moment ≡ moment }
+    {
         Joined {
             bytes: Vec::new(alloc),
-            moment: clock.now(),
+            moment,
         }
     }
 
@@ -76,31 +87,13 @@ impl Joined {
         }
     }
 
-    /// Nothing is to be had: writes what waits, or a KEEP_ALIVE where nothing was written for a while, and rests once.
-    pub(crate) fn rest<K: Sink, C: Clock>(
+    /// Nothing is to be had: writes what waits, or a KEEP_ALIVE where nothing was written for a while.
+    #[tactic(auto, using(zr_outside::proofs::Appending::appends_none))]
+    pub(crate) fn catch_up<K: Sink, C: Clock>(
         &mut self,
         sink: &mut K,
         clock: &mut C,
     ) -> Result<(), Stop>
-        requires past { self.old.moment ≤ C.last clock.old }
-        ensures empty { OnOk result (self.new.bytes.items ≡ []) }
-        ensures wrote { OnOk result (Rests self.old.bytes.items self.old.moment self.new.moment (K.held sink.old) (K.held sink.new)) }
-        ensures part { OnErr result (Fails self.old.bytes.items self.old.moment (C.last clock.new) (K.held sink.old) (K.held sink.new)) }
-        ensures cause { OnErr result (Rose (K.faults sink.old) (K.faults sink.new)) }
-        ensures fault { IfErr result (λ e. e ≡ Fault) }
-        ensures later { K.faults sink.old ≤ K.faults sink.new }
-        ensures moment { (self.old.moment ≤ self.new.moment) × (self.new.moment ≤ C.last clock.new) }
-        ensures clock { C.last clock.old ≤ C.last clock.new }
-        ensures quiet { OnOk result (K.faults sink.new ≡ K.faults sink.old) }
-    {
-        self.catch_up(sink, clock)?;
-        clock.pause();
-        Ok(())
-    }
-
-    // Writes what waits, or a KEEP_ALIVE where nothing was written for a while.
-    #[tactic(auto, using(zr_outside::proofs::Appending::appends_none))]
-    fn catch_up<K: Sink, C: Clock>(&mut self, sink: &mut K, clock: &mut C) -> Result<(), Stop>
         requires past { self.old.moment ≤ C.last clock.old }
         ensures empty { OnOk result (self.new.bytes.items ≡ []) }
         ensures wrote { OnOk result (Rests self.old.bytes.items self.old.moment self.new.moment (K.held sink.old) (K.held sink.new)) }
@@ -174,6 +167,76 @@ impl Joined {
         self.bytes.clear();
         self.moment = clock.now();
         Ok(())
+    }
+
+    /// Whether nothing waits.
+    pub(crate) fn is_empty(&self) -> bool
+        ensures { result ≡ true → self.now.bytes.items ≡ [] }
+    {
+        self.bytes.is_empty()
+    }
+
+    /// Joins a parcel as `add` does, without waiting long. Where there is no room for it, or no memory, it isn't joined.
+    #[tactic(auto, using(crate::proofs::Carrying::carries_written, crate::proofs::Carrying::carries_joined, crate::proofs::Carrying::carries_put, crate::proofs::Waiting::waits_joined))]
+    pub(crate) fn add_briefly<K: BriefSink>(
+        &mut self,
+        sink: &mut K,
+        head: &[u8],
+        body: &[u8],
+    ) -> Wrote
+        requires short { length (head.now ++ body.now) < 2 ^ 16 }
+        ensures added { AddsSo result (K.held sink.old) (K.held sink.new) self.new.bytes.items self.old.bytes.items (framed (head.now ++ body.now)) }
+        ensures faults { FaultsSo result (K.faults sink.old) (K.faults sink.new) }
+        ensures moment { self.new.moment ≡ self.old.moment }
+    {
+        if head.len() + body.len() + LENGTH_BYTES > MOST_JOINED.saturating_sub(self.bytes.len()) {
+            match self.write_some(sink) {
+                Wrote::All => (),
+                Wrote::Part => return Wrote::Part,
+                Wrote::Fault => return Wrote::Fault,
+            }
+        }
+        match put_parts(&mut self.bytes, head, body) {
+            Ok(()) => Wrote::All,
+            Err(_) => Wrote::Part,
+        }
+    }
+
+    /// Writes what there is room for at once.
+    #[tactic(auto, using(crate::proofs::Carrying::carries_joined, crate::proofs::Carrying::carries_some, crate::proofs::Carrying::carries_as_before))]
+    pub(crate) fn write_some<K: BriefSink>(&mut self, sink: &mut K) -> Wrote
+        ensures carried { Carries (K.held sink.old) (K.held sink.new) self.new.bytes.items self.old.bytes.items }
+        ensures all { result ≡ Wrote.All → self.new.bytes.items ≡ [] }
+        ensures faults { FaultsSo result (K.faults sink.old) (K.faults sink.new) }
+        ensures moment { self.new.moment ≡ self.old.moment }
+    {
+        if self.bytes.is_empty() {
+            return Wrote::All;
+        }
+        match sink.write_briefly(self.bytes.as_slice()) {
+            Brief::Took(count) => {
+                self.leave_out(count);
+                if self.bytes.is_empty() {
+                    Wrote::All
+                } else {
+                    Wrote::Part
+                }
+            }
+            Brief::Full => Wrote::Part,
+            Brief::Failed => Wrote::Fault,
+        }
+    }
+
+    // The first so many bytes don't wait any more.
+    #[tactic(auto, using(crate::proofs::Waiting::front_left_out))]
+    fn leave_out(&mut self, count: usize)
+        requires { count ≤ length self.old.bytes.items }
+        ensures rest { self.new.bytes.items ≡ drop count self.old.bytes.items }
+        ensures moment { self.new.moment ≡ self.old.moment }
+    {
+        let left = self.bytes.len() - count;
+        self.bytes.copy_within(count.., 0);
+        self.bytes.truncate(left);
     }
 
     // Writes a batch of the writer's own.

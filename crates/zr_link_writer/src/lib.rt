@@ -4,8 +4,14 @@
 mod close;
 mod end;
 mod joined;
+mod outlet;
+mod step;
+mod told;
+mod turn;
 mod writer;
 
 pub use close::close_batch;
 pub use end::WriterEnd;
+pub use outlet::Outlet;
+pub use turn::Turn;
 pub use writer::Writer;

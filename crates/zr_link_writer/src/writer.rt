@@ -11,10 +11,11 @@ ghost use Rattle.zr_link_writer.specs.declared.end.WriterEnd.TheVariants.{Done, 
 
 use crate::end::WriterEnd;
 use crate::joined::Joined;
+use crate::step::{Taken, take_one};
 use std::alloc::Global;
 use zr_outside::clock::Clock;
 use zr_outside::sink::Sink;
-use zr_ring::{Note, Taker, Took};
+use zr_ring::{Note, Taker};
 
 /// The writer of a link.
 pub struct Writer;
@@ -44,24 +45,11 @@ impl Writer {
     {
         let mut joined = Joined::new(alloc, clock);
         for _ in 0..turns {
-            match taker.take() {
-                Took::Parcel(parcel) => {
-                    let (head, body) = parcel.bytes.parts();
-                    if let Err(stop) = joined.add(sink, clock, head, body) {
-                        return stop.end();
-                    }
-                }
-                Took::Nothing => {
-                    if let Err(stop) = joined.rest(sink, clock) {
-                        return stop.end();
-                    }
-                }
-                Took::Ended(reason) => {
-                    return match joined.finish(sink, clock, reason) {
-                        Ok(()) => WriterEnd::Done(reason),
-                        Err(stop) => stop.end(),
-                    };
-                }
+            match take_one(sink, taker, &mut joined, clock) {
+                Ok(Taken::More) => (),
+                Ok(Taken::Nothing) => clock.pause(),
+                Ok(Taken::Ended(reason)) => return WriterEnd::Done(reason),
+                Err(stop) => return stop.end(),
             }
         }
         match joined.flush(sink, clock) {

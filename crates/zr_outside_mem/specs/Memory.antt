@@ -34,6 +34,10 @@ quiet_reads s = s.quiet.items
 abbrev pub reads_of : MemSource → ℕ
 reads_of s = s.calls
 
+-- the most bytes that a brief write to a sink in memory takes
+abbrev pub room_of : MemSink → ℕ
+room_of s = s.room
+
 -- the numbers of the writes to a sink in memory that fail
 abbrev pub failing_writes : MemSink → List ℕ
 failing_writes s = s.failing.items

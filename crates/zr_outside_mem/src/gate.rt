@@ -7,6 +7,7 @@ use std::sync::Arc;
 use std::sync::atomic::{AtomicU64, Ordering};
 use zr_outside::sink::{Put, Sink};
 use zr_outside::source::{Got, Source};
+use zr_outside_brief::{Brief, BriefSink};
 
 /// Counts the bytes that were written through it. It is shared by threads.
 #[derive(Drop)]
@@ -60,6 +61,16 @@ impl<K: Sink + Drop> Sink for GateSink<K> {
             self.gate.count.fetch_add(count as u64, Ordering::SeqCst);
         }
         put
+    }
+}
+
+impl<K: BriefSink + Drop> BriefSink for GateSink<K> {
+    fn write_briefly(&mut self, from: &[u8]) -> Brief {
+        let brief = self.sink.write_briefly(from);
+        if let Brief::Took(count) = brief {
+            self.gate.count.fetch_add(count as u64, Ordering::SeqCst);
+        }
+        brief
     }
 }
 

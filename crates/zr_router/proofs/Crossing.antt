@@ -4,6 +4,11 @@ use denote.Struct.Declared as declared
 use denote.Struct.Struct.{Struct}
 use denote.Param.Send.{IsSend, IsSync, AllSend, AllSync, sendable, recorded_send, recorded_sync, struct_send, struct_sync}
 use Rattle.std.proofs.Crossing.{crosses}
+use Rattle.zr_outside.specs.declared.sink.Sink as sink
+use Rattle.zr_board.proofs.Crossing.{board_send, board_sync}
+use Rattle.zr_router_queue.proofs.note.Queued.TheSendSync.{the_send as queued_send}
+use Rattle.zr_router_queue.specs.contracts.note.Queued.{the_row as queued}
+use Rattle.zr_router_queue.specs.contracts.note.QueuedNote.TheImpl.{ghosts as queued_ghosts}
 use Rattle.zr_access.proofs.policy.Policy.TheSendSync.{the_send as policy_send, the_sync as policy_sync}
 use Rattle.zr_hist.proofs.kept.Kept.TheSendSync.{the_field_send as kept_send}
 use Rattle.zr_id.proofs.zid.Zid.TheSendSync.{the_send as zid_send}
@@ -70,10 +75,10 @@ tables_send B g b =
     let T = tables_type B g in
     recorded_send (Struct (declared.shape T)) T.D T.to T.to_one (struct_send (declared.shape T) all)
 
-pub router_send : (B R : RattleType) (g : Ghosts B.Denot) → IsSend B → IsSend R → IsSend (router B R g)
-router_send B R g b r =
+pub router_send : (B R K : RattleType) (g : Ghosts B.Denot) (s : sink.Ghosts K.Denot) → IsSend B → IsSend R → IsSend K → IsSend (router B R K g s)
+router_send B R K g s b r k =
     let t = tables_send B g b in
-    let T = router_type B R g in
+    let T = router_type B R K g s in
     let all : AllSend (declared.shape T).fields = (
       search (r, sendable),
       (
@@ -83,7 +88,7 @@ router_send B R g b r =
           (
             search (t, crosses, sendable),
             (
-              search (crosses, sendable),
+              board_send K queued s queued_ghosts k queued_send,
               (
                 search (sendable),
                 tt,
@@ -95,10 +100,10 @@ router_send B R g b r =
     ) in
     recorded_send (Struct (declared.shape T)) T.D T.to T.to_one (struct_send (declared.shape T) all)
 
-pub router_sync : (B R : RattleType) (g : Ghosts B.Denot) → IsSend B → IsSync R → IsSync (router B R g)
-router_sync B R g b r =
+pub router_sync : (B R K : RattleType) (g : Ghosts B.Denot) (s : sink.Ghosts K.Denot) → IsSend B → IsSync R → IsSend K → IsSync (router B R K g s)
+router_sync B R K g s b r k =
     let t = tables_send B g b in
-    let T = router_type B R g in
+    let T = router_type B R K g s in
     let all : AllSync (declared.shape T).fields = (
       search (r, sendable),
       (
@@ -108,7 +113,7 @@ router_sync B R g b r =
           (
             search (t, crosses, sendable),
             (
-              search (crosses, sendable),
+              board_sync K queued s queued_ghosts k queued_send,
               (
                 search (sendable),
                 tt,

@@ -1,8 +1,9 @@
-//! The shared router: tables under a lock, and the bells of the links' writers beside it.
+//! The shared router: tables under a lock, and the board of the links' outlets beside it.
 
 ghost use Rattle.std.specs.Prelude.{◌≡◌, ◌<◌, List, [], true, length, IfErr, OnOk};
 ghost use Rattle.std.specs.List.{AllByRecursion};
 ghost use Rattle.std.specs.Vec.Iter.{into_iter_items, into_iter_len};
+ghost use Rattle.zr_board.specs.Board.{places_of};
 ghost use Rattle.zr_hist.specs.Words.{IsSamePass, kept_name, list_of, name, pass_name, seen};
 ghost use Rattle.zr_msg.specs.declared.msg.Msg.{Msg};
 ghost use Rattle.zr_port.specs.Coming.{ComesUpTo, StopsAt, sight};
@@ -16,21 +17,25 @@ use crate::rests::{MOST_ANSWER_WAIT_MS, MOST_DOWN_WAIT_MS, Rest};
 use crate::tables::{Due, Tables};
 use std::alloc::{AllocError, Global};
 use std::marker::PhantomData;
-use std::sync::{Mutex, MutexGuard, Wait};
+use std::sync::{Arc, Mutex, MutexGuard, Wait};
 use std::thread::Parker;
 use std::time::Duration;
 use std::vec;
 use zr_access::Policy;
+use zr_board::{Board, SharedOutlet};
 use zr_frame::Outbox;
 use zr_glance::Glance;
 use zr_hist::{History, Kept, Pass};
 use zr_id::link::LinkNo;
 use zr_id::zid::Zid;
+use zr_link_writer::Turn;
 use zr_msg::msg::Msg;
 use zr_msg::peer::Peer;
 use zr_msg::shared::Shared;
+use zr_outside_brief::BriefSink;
 use zr_port::{DeliverError, DownError, Entry, Naming, Port, UpError};
 use zr_port_glance::Glancing;
+use zr_port_outlet::Outlets;
 use zr_ring::Taker;
 use zr_router_queue::Queued;
 use zr_router_room::{Coming, Pace, Patience};
@@ -38,35 +43,35 @@ use zr_router_room::{Coming, Pace, Patience};
 /// How often a thread looks at most whether the event that it brings has room: more often than any patience lasts.
 const MOST_LOOKS: u32 = 16_384;
 
-/// A router that many threads share. Each call works on the tables under their lock and wakes the links' writers once it is free again; only
-/// `split` and `join` take no lock. Where an event leaves a ring crowded, its thread rests for a moment, so that a writer which wasn't scheduled at once
-/// gets to run before the ring is full.
-pub struct Router<B: Naming, R: Wait + Drop> {
+/// A router that many threads share. Each call works on the tables under their lock. Once that is free again it writes what was queued, where that is
+/// for few links, or wakes the links' writers. Only `split` and `join` take no lock. Where an event leaves a ring crowded, its thread rests for a
+/// moment, so that a writer which wasn't scheduled at once gets to run before the ring is full.
+pub struct Router<B: Naming, R: Wait + Drop, K: BriefSink + Drop> {
     rt: R,
     alloc: Global,
     history: History<Entry>,
     tables: Mutex<Tables<B>>,
-    bells: Vec<Parker>,
+    board: Board<K, Queued>,
     of: PhantomData<B>,
     ghost named: { name history ≡ B.history },
-    ghost for_each_link: { length bells.items ≡ most_sessions },
+    ghost for_each_link: { places_of board ≡ most_sessions },
 }
 
 // Written out, so that it is proved here, and not by each crate that lets one go.
-impl<B: Naming, R: Wait + Drop> Drop for Router<B, R> {
+impl<B: Naming, R: Wait + Drop, K: BriefSink + Drop> Drop for Router<B, R, K> {
     fn drop(self) {
         let Self {
             rt: _rt,
             alloc: _alloc,
             history: _history,
             tables: _tables,
-            bells: _bells,
+            board: _board,
             of: _of,
         } = self;
     }
 }
 
-impl<B: Naming, R: Wait + Drop> Router<B, R> {
+impl<B: Naming, R: Wait + Drop, K: BriefSink + Drop> Router<B, R, K> {
     /// A router without links, over an empty history. It judges what clients send by these rules.
     pub fn new(
         rt: R,
@@ -75,30 +80,27 @@ impl<B: Naming, R: Wait + Drop> Router<B, R> {
         policy: Shared<Policy>,
         history: History<Entry>,
         kept: Kept<Entry>,
-    ) -> Result<Router<B, R>, AllocError>
+    ) -> Result<Router<B, R, K>, AllocError>
         requires history { name history ≡ B.history }
         requires kept { (kept_name kept ≡ B.history) × (list_of kept ≡ []) }
         requires own { me ≡ B.me }
         requires ruled { policy ≡ B.policy }
     {
-        let mut bells = Vec::with_capacity(alloc, MOST_SESSIONS as usize)?;
-        for _ in 0..MOST_SESSIONS {
-            bells.push(Parker::new())?;
-        }
+        let board = Board::new(alloc, MOST_SESSIONS)?;
         Ok(Router {
             rt,
             alloc,
             history,
             tables: Mutex::new(Tables::new(alloc, me, policy, kept)?),
-            bells,
+            board,
             of: PhantomData,
         })
     }
 
-    // Does what a call leaves to be done once the lock is free: the writers are woken, and where a ring is crowded this thread rests for a while. No one
-    // wakes it earlier.
+    // Does what a call leaves to be done once the lock is free: what was queued is written or its writers are woken, and where a ring is crowded this
+    // thread rests for a while. No one wakes it earlier.
     fn follow(&self, due: Due) {
-        self.ring(due.links);
+        self.board.serve(&self.rt, due.links);
         if due.rest.ms > 0 {
             let parker = Parker::new();
             parker.park_timeout(&self.rt, Duration::from_millis(due.rest.ms));
@@ -228,23 +230,9 @@ impl<B: Naming, R: Wait + Drop> Router<B, R> {
         self.follow(due);
         result
     }
-
-    // Wakes the writers of these links.
-    fn ring(&self, links: u128) {
-        let mut rest = links;
-        for _ in 0..MOST_SESSIONS {
-            if rest == 0 {
-                break;
-            }
-            if let Some(bell) = self.bells.get(rest.trailing_zeros() as usize) {
-                bell.unpark();
-            }
-            rest &= rest - 1;
-        }
-    }
 }
 
-impl<B: Naming, R: Wait + Drop> Port for Router<B, R> {
+impl<B: Naming, R: Wait + Drop, K: BriefSink + Drop> Port for Router<B, R, K> {
     ghost use Rattle.std.specs.Prelude.{◌≡◌, true};
     ghost use Rattle.zr_router_queue.specs.History as history;
     ghost use Rattle.zr_router_queue.specs.Tables as tables;
@@ -345,13 +333,11 @@ impl<B: Naming, R: Wait + Drop> Port for Router<B, R> {
     }
 
     fn rest(&self, link: LinkNo, most: u64) {
-        if let Some(bell) = self.bells.get(link.0 as usize) {
-            bell.park_timeout(&self.rt, Duration::from_millis(most));
-        }
+        self.board.rest(&self.rt, link, most);
     }
 }
 
-impl<B: Naming, R: Wait + Drop> Glancing for Router<B, R> {
+impl<B: Naming, R: Wait + Drop, K: BriefSink + Drop> Glancing for Router<B, R, K> {
     ghost use Rattle.zr_router_queue.specs.Tables as tables;
     ghost use Rattle.zr_router.specs.Former as former;
     ghost use Rattle.zr_router.specs.Glance as glances;
@@ -372,5 +358,36 @@ impl<B: Naming, R: Wait + Drop> Glancing for Router<B, R> {
         let result = tables.was_used_before(&self.history, pass);
         drop(tables);
         result
+    }
+}
+
+impl<B: Naming, R: Wait + Drop, K: BriefSink + Drop> Outlets for Router<B, R, K> {
+    type Out = K;
+
+    fn next_turn(&self, link: LinkNo) -> u64 {
+        self.board.next_turn(&self.rt, link)
+    }
+
+    fn post(
+        &self,
+        link: LinkNo,
+        turn: u64,
+        outlet: &Arc<SharedOutlet<K, Queued>>,
+    ) -> Result<(), AllocError> {
+        let outlet = Arc::try_clone(outlet)?;
+        self.board.post(&self.rt, link, turn, outlet);
+        Ok(())
+    }
+
+    fn withdraw(&self, link: LinkNo, turn: u64) {
+        self.board.withdraw(&self.rt, link, turn);
+    }
+
+    fn write(&self, outlet: &SharedOutlet<K, Queued>, now: u64) -> Turn {
+        outlet.turn(&self.rt, now)
+    }
+
+    fn rest_at(&self, outlet: &SharedOutlet<K, Queued>, most: u64) {
+        outlet.rest(&self.rt, most);
     }
 }

@@ -40,9 +40,11 @@ use zr_msg::shared::Shared;
 use zr_outside::clock::Clock;
 use zr_outside::host::{Accepted, Host};
 use zr_outside::sink::Sink;
+use zr_outside_brief::BriefSink;
 use zr_outside_crew::Crew;
 use zr_port::{DeliverError, Entry, Port, UpError};
 use zr_port_glance::Glancing;
+use zr_port_outlet::Outlets;
 
 /// What the threads of each link are made of: the threads of the system, the port at which links reach the router, the rules by which that judges what
 /// clients send, and a pass of its history.
@@ -68,7 +70,7 @@ pub fn serve<
     H: Host,
     K: Sink,
     E: Sink,
-    P: Glancing + Send + Sync + Drop + 'static,
+    P: Glancing + Outlets<Out = H::Out> + Send + Sync + Drop + 'static,
     R: Threads + Wait + Copy + Send + Sync + Drop + 'static,
 >(
     serving: &mut Serving<P, R>,
@@ -80,7 +82,7 @@ pub fn serve<
 ) -> ServeEnd
 where
     H::In: 'static,
-    H::Out: 'static,
+    H::Out: BriefSink + 'static,
     H::Time: 'static,
     H::Log: 'static,
     P::Note: Send + 'static,
@@ -213,7 +215,7 @@ fn serve_links<
     H: Host,
     K: Sink,
     E: Sink,
-    P: Glancing + Send + Sync + Drop + 'static,
+    P: Glancing + Outlets<Out = H::Out> + Send + Sync + Drop + 'static,
     R: Threads + Wait + Copy + Send + Sync + Drop + 'static,
 >(
     serving: &mut Serving<P, R>,
@@ -226,7 +228,7 @@ fn serve_links<
 ) -> ServeEnd
 where
     H::In: 'static,
-    H::Out: 'static,
+    H::Out: BriefSink + 'static,
     H::Time: 'static,
     H::Log: 'static,
     P::Note: Send + 'static,
@@ -271,7 +273,7 @@ fn tell_end<E: Sink>(end: ServeEnd, err: &mut E)
 fn dial_all<
     H: Host,
     E: Sink,
-    P: Glancing + Send + Sync + Drop + 'static,
+    P: Glancing + Outlets<Out = H::Out> + Send + Sync + Drop + 'static,
     R: Threads + Wait + Copy + Send + Sync + Drop + 'static,
 >(
     serving: &mut Serving<P, R>,
@@ -283,7 +285,7 @@ fn dial_all<
 ) -> Result<(), ServeEnd>
 where
     H::In: 'static,
-    H::Out: 'static,
+    H::Out: BriefSink + 'static,
     H::Time: 'static,
     H::Log: 'static,
     P::Note: Send + 'static,
@@ -308,7 +310,7 @@ where
 fn dial<
     H: Host,
     E: Sink,
-    P: Glancing + Send + Sync + Drop + 'static,
+    P: Glancing + Outlets<Out = H::Out> + Send + Sync + Drop + 'static,
     R: Threads + Wait + Copy + Send + Sync + Drop + 'static,
 >(
     serving: &mut Serving<P, R>,
@@ -320,7 +322,7 @@ fn dial<
 ) -> Result<(), ServeEnd>
 where
     H::In: 'static,
-    H::Out: 'static,
+    H::Out: BriefSink + 'static,
     H::Time: 'static,
     H::Log: 'static,
     P::Note: Send + 'static,
@@ -361,7 +363,7 @@ where
 fn accept_all<
     H: Host,
     E: Sink,
-    P: Glancing + Send + Sync + Drop + 'static,
+    P: Glancing + Outlets<Out = H::Out> + Send + Sync + Drop + 'static,
     R: Threads + Wait + Copy + Send + Sync + Drop + 'static,
 >(
     serving: &mut Serving<P, R>,
@@ -373,7 +375,7 @@ fn accept_all<
 ) -> ServeEnd
 where
     H::In: 'static,
-    H::Out: 'static,
+    H::Out: BriefSink + 'static,
     H::Time: 'static,
     H::Log: 'static,
     P::Note: Send + 'static,
@@ -434,7 +436,7 @@ where
 #[tactic(auto, using(crate::proofs::Reaching::accept_gives, crate::proofs::Reaching::accept_waits, crate::proofs::Reaching::accept_ends, crate::proofs::Reaching::accept_fails))]
 fn accept<
     H: Host,
-    P: Glancing + Send + Sync + Drop + 'static,
+    P: Glancing + Outlets<Out = H::Out> + Send + Sync + Drop + 'static,
     R: Threads + Wait + Copy + Send + Sync + Drop + 'static,
 >(
     serving: &mut Serving<P, R>,
@@ -444,7 +446,7 @@ fn accept<
 ) -> Result<(), ServeEnd>
 where
     H::In: 'static,
-    H::Out: 'static,
+    H::Out: BriefSink + 'static,
     H::Time: 'static,
     H::Log: 'static,
     P::Note: Send + 'static,
@@ -481,7 +483,7 @@ where
 #[tactic(auto, using(zr_link_job::proofs::Starting::starts_lost))]
 fn start<
     H: Host,
-    P: Glancing + Send + Sync + Drop + 'static,
+    P: Glancing + Outlets<Out = H::Out> + Send + Sync + Drop + 'static,
     R: Threads + Wait + Copy + Send + Sync + Drop + 'static,
 >(
     serving: &mut Serving<P, R>,
@@ -495,7 +497,7 @@ fn start<
 )
 where
     H::In: 'static,
-    H::Out: 'static,
+    H::Out: BriefSink + 'static,
     H::Time: 'static,
     H::Log: 'static,
     P::Note: Send + 'static,

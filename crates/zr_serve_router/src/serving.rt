@@ -19,6 +19,7 @@ use zr_link_job::ServeJob;
 use zr_msg::shared::Shared;
 use zr_outside::host::Host;
 use zr_outside::sink::Sink;
+use zr_outside_brief::BriefSink;
 use zr_outside_crew::Crew;
 use zr_port::{Entry, Naming};
 use zr_router::Router;
@@ -43,7 +44,7 @@ pub fn serve_router<
 ) -> ServeEnd
 where
     H::In: 'static,
-    H::Out: 'static,
+    H::Out: BriefSink + 'static,
     H::Time: 'static,
     H::Log: 'static,
     ensures served { IsServed result plan.now.id policy plan.now.log plan.now.admin (Opened policy plan.now.id) (Refused policy plan.now.id) (Heard policy plan.now.id) (string_bytes plan.now.listen) plan.now.dials.items (H.generators host.old) (H.generators host.new) (H.calls host.old) (H.calls host.new) (crew_told crew.old) (crew_told crew.new) (crew_faults crew.old) (crew_faults crew.new) (outputs (K.held out.old) (E.held err.old) (E.faults err.old)) (outputs (K.held out.new) (E.held err.new) (E.faults err.new)) }
@@ -89,7 +90,7 @@ fn serve_named<
 ) -> ServeEnd
 where
     H::In: 'static,
-    H::Out: 'static,
+    H::Out: BriefSink + 'static,
     H::Time: 'static,
     H::Log: 'static,
     requires history { name history ≡ B.history }
@@ -107,7 +108,7 @@ where
     let Ok(judged) = policy.copy() else {
         return ServeEnd::NoMemory;
     };
-    let Ok(router) = Router::<B, R>::new(rt, alloc, plan.id, judged, history, kept) else {
+    let Ok(router) = Router::<B, R, H::Out>::new(rt, alloc, plan.id, judged, history, kept) else {
         return ServeEnd::NoMemory;
     };
     let Ok(port) = Arc::new(alloc, router) else {

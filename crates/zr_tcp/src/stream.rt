@@ -1,6 +1,7 @@
 //! A TCP stream as a source and a sink.
 
 ghost use Rattle.std.specs.Prelude.{◌≡◌, ◌≤◌, None, length};
+ghost use Rattle.zr_outside_brief.specs.Brief.{IsWithin};
 
 use crate::clock::SystemClock;
 use crate::grace::Grace;
@@ -13,6 +14,7 @@ use std::sync::{Arc, Wait};
 use std::time::{Clock, Duration};
 use zr_outside::sink::{Put, Sink};
 use zr_outside::source::{Got, Source};
+use zr_outside_brief::{Brief, BriefSink};
 
 /// How long a read waits for bytes before it is quiet, until a session has opened: the stream may have to give way.
 const QUIET_MS: u64 = 100;
@@ -23,12 +25,13 @@ const OPEN_QUIET_MS: u64 = 1_000;
 /// How long a write waits for a peer that reads nothing before it fails: the lease that this router tells.
 const MOST_WRITE_MS: u64 = 10_000;
 
-/// How long each try of a write waits for room. Linux wakes a write that waits only once a third of the stream's send buffer is free. Over a fast network
-/// that is a megabyte and more, so seconds if the peer reads slowly. A new try takes what room there is.
-const TRY_MS: u64 = 20;
+/// How long each try of a write waits for room. The system rounds this up to one or two of its ticks. A thread that has others to serve tries once. The link's
+/// writer tries again, since Linux wakes a write that waits only once a third of the stream's send buffer is free. Over a fast network that is a megabyte and
+/// more, so seconds if the peer reads slowly. A new try takes what room there is.
+const TRY_MS: u64 = 1;
 
 /// How often a write is tried at most, whatever the clock tells.
-const MOST_TRIES: u32 = 500;
+const MOST_TRIES: u32 = 10_000;
 
 /// How many writes a session takes to open: one for each answer to its peer. A peer that sends less than both messages is written less.
 const WRITES_TO_OPEN: u32 = 2;
@@ -230,6 +233,22 @@ impl<R: Wait + Clock + Copy + Drop> Sink for TcpSink<R> {
     }
 }
 
+impl<R: Wait + Clock + Copy + Drop> BriefSink for TcpSink<R> {
+    // In the grace period a write may fail for want of room, so it is left to those that wait.
+    fn write_briefly(&mut self, from: &[u8]) -> Brief {
+        if self.grace.is_due() {
+            return Brief::Full;
+        }
+        let brief = taken_briefly(&mut self.stream, from);
+        match brief {
+            Brief::Took(_) => self.count_write(),
+            Brief::Full => (),
+            Brief::Failed => self.faults = self.faults.saturating_add(1),
+        }
+        brief
+    }
+}
+
 // How many bytes the stream took, and 0 where the write failed. In the grace period one that didn't take all has failed, having waited as long as a write may,
 // and so has each behind the period. The clock began with the write.
 fn written<R: Clock + Drop>(
@@ -248,6 +267,20 @@ fn written<R: Clock + Drop>(
         return 0;
     }
     count
+}
+
+// What the stream took in one try.
+fn taken_briefly(stream: &mut TcpStream, from: &[u8]) -> Brief
+    ensures { IsWithin (length from.now) result }
+{
+    match stream.write(from) {
+        Ok(0) => Brief::Full,
+        Ok(count) => Brief::Took(count),
+        Err(e) => match e.kind() {
+            ErrorKind::WouldBlock | ErrorKind::TimedOut | ErrorKind::Interrupted => Brief::Full,
+            _ => Brief::Failed,
+        },
+    }
 }
 
 // How many bytes the stream took, and 0 where it took none.

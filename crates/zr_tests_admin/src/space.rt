@@ -14,6 +14,7 @@ use zr_admin::{Admin, Stepped};
 use zr_hist::{History, Kept, Pass};
 use zr_id::zid::Zid;
 use zr_msg::shared::Shared;
+use zr_outside_mem::mem_sink::MemSink;
 use zr_port::{Entry, Naming};
 use zr_port_glance::Glancing;
 use zr_ring::Taker;
@@ -108,7 +109,7 @@ fn told_at<B: Naming, R: Wait + Drop>(
     requires own { me ≡ B.me }
     requires ruled { policy ≡ B.policy }
 {
-    let router = Router::<B, R>::new(rt, alloc, me, policy, history, kept)?;
+    let router = Router::<B, R, MemSink>::new(rt, alloc, me, policy, history, kept)?;
     told_by(alloc, Arc::new(alloc, router)?, pass, me, key)
 }
 

@@ -2,6 +2,7 @@
 ghost use Rattle.std.specs.Prelude.{◌≡◌, []};
 ghost use Rattle.zr_hist.specs.Words.{kept_name, list_of, name, pass_name};
 
+use crate::link_sink::{LinkSink, To};
 use crate::links::{Begin, Desk, OTHER, Watched, are_left, desk_named, hand, identifier};
 use crate::pipe::Pipe;
 use crate::seen::Want;
@@ -16,7 +17,8 @@ use zr_id::zid::Zid;
 use zr_link_job::Side;
 use zr_msg::shared::Shared;
 use zr_outside_crew::Crew;
-use zr_port::{Entry, Naming, Port};
+use zr_port::{Entry, Naming};
+use zr_router::Router;
 
 /// The number of the link between the routers at each of them: its clients have lower ones.
 const NUMBER: u64 = 2;
@@ -36,18 +38,15 @@ const AT_SECOND: Want = Want {
 
 // Hands over this router's end of the link.
 fn begin<
-    P: Port + Send + Sync + Drop + 'static,
+    B: Naming + Send + Sync + 'static,
     R: Threads + Wait + Copy + Send + Sync + Drop + 'static,
 >(
-    desk: &mut Desk<P, R>,
+    desk: &mut Desk<Router<B, R, LinkSink<R>>, R>,
     side: Side,
     from: &Pipe,
     to: &Pipe,
     end: &mut Watched<R>,
-) -> Result<(), AllocError>
-where
-    P::Note: Send + 'static,
-{
+) -> Result<(), AllocError> {
     let begin = Begin {
         side,
         number: NUMBER,
@@ -56,26 +55,22 @@ where
     };
     let writers = Crew::new(desk.rt, desk.alloc)?;
     let source = from.source(desk.rt)?;
-    let sink = to.sink(desk.rt)?;
+    let sink = LinkSink::new(To::Pipe(to.sink(desk.rt)?));
     hand(desk, &mut end.crew, writers, begin, &end.seen, source, sink)
 }
 
 // Whether a talk of their clients goes as it says over these routers, whose link comes up before it and ends behind it.
 fn goes_linked<
-    P: Port + Send + Sync + Drop + 'static,
-    Q: Port + Send + Sync + Drop + 'static,
+    B: Naming + Send + Sync + 'static,
+    D: Naming + Send + Sync + 'static,
     R: Threads + Wait + Copy + Send + Sync + Drop + 'static,
 >(
-    desk: &mut Desk<P, R>,
-    other: &mut Desk<Q, R>,
+    desk: &mut Desk<Router<B, R, LinkSink<R>>, R>,
+    other: &mut Desk<Router<D, R, LinkSink<R>>, R>,
     talk: &Talk,
     first: &mut Watched<R>,
     second: &mut Watched<R>,
-) -> Result<bool, AllocError>
-where
-    P::Note: Send + 'static,
-    Q::Note: Send + 'static,
-{
+) -> Result<bool, AllocError> {
     let there = Pipe::new(desk.alloc)?;
     let back = Pipe::new(desk.alloc)?;
     begin(desk, Side::Accepting, &there, &back, first)?;
@@ -88,14 +83,14 @@ where
 
 // The same, and both ends of the link leave what they should.
 fn goes_over<
-    P: Port + Send + Sync + Drop + 'static,
-    Q: Port + Send + Sync + Drop + 'static,
+    B: Naming + Send + Sync + 'static,
+    D: Naming + Send + Sync + 'static,
     R: Threads + Wait + Copy + Send + Sync + Drop + 'static,
->(desk: &mut Desk<P, R>, other: &mut Desk<Q, R>, talk: &Talk) -> Result<bool, AllocError>
-where
-    P::Note: Send + 'static,
-    Q::Note: Send + 'static,
-{
+>(
+    desk: &mut Desk<Router<B, R, LinkSink<R>>, R>,
+    other: &mut Desk<Router<D, R, LinkSink<R>>, R>,
+    talk: &Talk,
+) -> Result<bool, AllocError> {
     let rt = desk.rt;
     let alloc = desk.alloc;
     let mut first = Watched::new(rt, alloc)?;
@@ -110,11 +105,11 @@ where
 
 // The same, where the second router is a new one under this name.
 fn goes_named<
-    P: Port + Send + Sync + Drop + 'static,
     B: Naming + Send + Sync + 'static,
+    D: Naming + Send + Sync + 'static,
     R: Threads + Wait + Copy + Send + Sync + Drop + 'static,
 >(
-    desk: &mut Desk<P, R>,
+    desk: &mut Desk<Router<B, R, LinkSink<R>>, R>,
     talk: &Talk,
     me: Zid,
     policy: Shared<Policy>,
@@ -122,29 +117,24 @@ fn goes_named<
     kept: Kept<Entry>,
     pass: Pass<Entry>,
 ) -> Result<bool, AllocError>
-where
-    P::Note: Send + 'static,
-    requires history { name history ≡ B.history }
-    requires kept { (kept_name kept ≡ B.history) × (list_of kept ≡ []) }
-    requires pass { pass_name pass ≡ B.history }
-    requires own { me ≡ B.me }
-    requires ruled { policy ≡ B.policy }
+    requires history { name history ≡ D.history }
+    requires kept { (kept_name kept ≡ D.history) × (list_of kept ≡ []) }
+    requires pass { pass_name pass ≡ D.history }
+    requires own { me ≡ D.me }
+    requires ruled { policy ≡ D.policy }
 {
-    let mut other = desk_named::<B, R>(desk.rt, desk.alloc, me, policy, history, kept, pass)?;
+    let mut other = desk_named::<D, R>(desk.rt, desk.alloc, me, policy, history, kept, pass)?;
     goes_over(desk, &mut other, talk)
 }
 
 /// Whether a talk of a client of this router and one of router 02 goes as it says.
 pub fn goes_so<
-    P: Port + Send + Sync + Drop + 'static,
+    B: Naming + Send + Sync + 'static,
     R: Threads + Wait + Copy + Send + Sync + Drop + 'static,
->(desk: &mut Desk<P, R>, talk: &Talk) -> Result<bool, AllocError>
-where
-    P::Note: Send + 'static,
-{
+>(desk: &mut Desk<Router<B, R, LinkSink<R>>, R>, talk: &Talk) -> Result<bool, AllocError> {
     let alloc = desk.alloc;
     let me = identifier(OTHER)?;
     let policy = Shared::new(alloc, Policy::open(alloc))?;
     let (history, kept, pass) = History::<Entry>::new(alloc)?;
-    goes_named::<P, Brand, R>(desk, talk, me, policy, history, kept, pass)
+    goes_named::<B, Brand, R>(desk, talk, me, policy, history, kept, pass)
 }

@@ -1,5 +1,6 @@
 //! A link whose reads, writes or threads fail, and one that falls silent: how it ends, and what it was written.
 
+use crate::link_sink::{LinkSink, To};
 use crate::links::{Begin, Desk, hand};
 use crate::seen::{Seen, Want};
 use crate::silent::SilentSource;
@@ -13,7 +14,8 @@ use std::thread::Threads;
 use zr_link_job::{ServeJob, Side};
 use zr_outside_crew::Crew;
 use zr_outside_mem::mem_source::MemSource;
-use zr_port::Port;
+use zr_port::Naming;
+use zr_router::Router;
 
 /// How many bytes a read gives at most: more than come, or just INIT.
 const AT_ONCE: Comes = Comes::AtMost(65_536);
@@ -182,17 +184,14 @@ pub fn rows() -> &'static [Failing] {
 
 // Hands over the link of a row.
 fn begin<
-    P: Port + Send + Sync + Drop + 'static,
+    B: Naming + Send + Sync + 'static,
     R: Threads + Wait + Copy + Send + Sync + Drop + 'static,
 >(
-    desk: &mut Desk<P, R>,
+    desk: &mut Desk<Router<B, R, LinkSink<R>>, R>,
     crew: &mut Crew<R, ServeJob>,
     row: &Failing,
     seen: &Seen,
-) -> Result<(), AllocError>
-where
-    P::Note: Send + 'static,
-{
+) -> Result<(), AllocError> {
     let begin = Begin {
         side: Side::Accepting,
         number: 0,
@@ -202,7 +201,7 @@ where
     let writers = Crew::telling(desk.rt, desk.alloc, row.writers.to_vec(desk.alloc)?)?;
     let failing = row.reads.to_vec(desk.alloc)?;
     let bytes = joined(desk.alloc, row.sends)?;
-    let sink = seen.sink(desk.rt)?;
+    let sink = LinkSink::new(To::Seen(seen.sink(desk.rt)?));
     match row.comes {
         Comes::AtMost(most) => {
             let source = MemSource::new(bytes, most, failing, Vec::new(desk.alloc));
@@ -217,12 +216,9 @@ where
 
 /// Whether a link of this router ends as the row says.
 pub fn ends_so<
-    P: Port + Send + Sync + Drop + 'static,
+    B: Naming + Send + Sync + 'static,
     R: Threads + Wait + Copy + Send + Sync + Drop + 'static,
->(desk: &mut Desk<P, R>, row: &Failing) -> Result<bool, AllocError>
-where
-    P::Note: Send + 'static,
-{
+>(desk: &mut Desk<Router<B, R, LinkSink<R>>, R>, row: &Failing) -> Result<bool, AllocError> {
     let rt = desk.rt;
     let alloc = desk.alloc;
     let seen = Seen::new(alloc, row.writes)?;

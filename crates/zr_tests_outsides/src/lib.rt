@@ -7,6 +7,8 @@ mod across;
 #[cfg(test)]
 mod failing;
 #[cfg(test)]
+mod link_sink;
+#[cfg(test)]
 mod links;
 #[cfg(test)]
 mod moving_clock;

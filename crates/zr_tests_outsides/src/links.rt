@@ -4,6 +4,7 @@ ghost use Rattle.std.specs.Prelude.{◌≡◌, [], true, IfOk};
 ghost use Rattle.std.specs.Arc.{arc_value};
 ghost use Rattle.zr_hist.specs.Words.{kept_name, list_of, name, pass_name};
 
+use crate::link_sink::LinkSink;
 use crate::moving_clock::MovingClock;
 use crate::seen::Seen;
 use crate::wire::SECRET;
@@ -17,10 +18,11 @@ use zr_id::zid::Zid;
 use zr_link_job::{LinkJob, LinkStart, Reading, ServeJob, Side, hand_over};
 use zr_msg::peer::Weight;
 use zr_msg::shared::Shared;
-use zr_outside::sink::Sink;
 use zr_outside::source::Source;
+use zr_outside_brief::BriefSink;
 use zr_outside_crew::Crew;
 use zr_port::{Entry, Naming, Port};
+use zr_port_outlet::Outlets;
 use zr_router::Router;
 
 /// A router as its links reach it, its identifier, the rules by which it judges them, and a pass of its history.
@@ -48,7 +50,7 @@ pub fn desk_named<
     history: History<Entry>,
     kept: Kept<Entry>,
     pass: Pass<Entry>,
-) -> Result<Desk<Router<B, R>, R>, AllocError>
+) -> Result<Desk<Router<B, R, LinkSink<R>>, R>, AllocError>
     requires history { name history ≡ B.history }
     requires kept { (kept_name kept ≡ B.history) × (list_of kept ≡ []) }
     requires pass { pass_name pass ≡ B.history }
@@ -56,7 +58,7 @@ pub fn desk_named<
     requires ruled { policy ≡ B.policy }
 {
     let judged = policy.copy()?;
-    let router = Router::<B, R>::new(rt, alloc, me, judged, history, kept)?;
+    let router = Router::<B, R, LinkSink<R>>::new(rt, alloc, me, judged, history, kept)?;
     let port = Arc::new(alloc, router)?;
     Ok(Desk {
         rt,
@@ -137,8 +139,8 @@ fn shared<P: Port + Drop, R: Threads + Wait + Copy + Drop>(
 /// Hands a link over: the one crew starts its reader, and the other its writer.
 pub fn hand<
     S: Source + Send + Drop + 'static,
-    K: Sink + Send + Drop + 'static,
-    P: Port + Send + Sync + Drop + 'static,
+    K: BriefSink + Send + Drop + 'static,
+    P: Outlets<Out = K> + Send + Sync + Drop + 'static,
     R: Threads + Wait + Copy + Send + Sync + Drop + 'static,
 >(
     desk: &mut Desk<P, R>,

@@ -4,6 +4,7 @@ ghost use Rattle.zr_hist.specs.Words.{kept_name, list_of, name, pass_name};
 
 use crate::across;
 use crate::failing::{Failing, ends_so};
+use crate::link_sink::LinkSink;
 use crate::links::{Desk, OWN, are_left, desk_named, identifier};
 use crate::talking::{Talk, goes_so};
 use std::alloc::{AllocError, Global};
@@ -14,7 +15,8 @@ use zr_access::Policy;
 use zr_hist::{History, Kept, Pass};
 use zr_id::zid::Zid;
 use zr_msg::shared::Shared;
-use zr_port::{Entry, Naming, Port};
+use zr_port::{Entry, Naming};
+use zr_router::Router;
 
 /// What is tried at a router. A talk across is one with a client of another router, which is linked with this one.
 #[derive(Clone, Copy)]
@@ -26,12 +28,9 @@ pub enum Case {
 
 // Whether the case goes as it says at this router.
 fn is_so<
-    P: Port + Send + Sync + Drop + 'static,
+    B: Naming + Send + Sync + 'static,
     R: Threads + Wait + Copy + Send + Sync + Drop + 'static,
->(desk: &mut Desk<P, R>, case: Case) -> Result<bool, AllocError>
-where
-    P::Note: Send + 'static,
-{
+>(desk: &mut Desk<Router<B, R, LinkSink<R>>, R>, case: Case) -> Result<bool, AllocError> {
     match case {
         Case::Failing(row) => ends_so(desk, row),
         Case::Talk(talk) => goes_so(desk, talk),
@@ -41,12 +40,9 @@ where
 
 // The same, and its links are down then.
 fn goes_at<
-    P: Port + Send + Sync + Drop + 'static,
+    B: Naming + Send + Sync + 'static,
     R: Threads + Wait + Copy + Send + Sync + Drop + 'static,
->(desk: &mut Desk<P, R>, case: Case) -> Result<bool, AllocError>
-where
-    P::Note: Send + 'static,
-{
+>(desk: &mut Desk<Router<B, R, LinkSink<R>>, R>, case: Case) -> Result<bool, AllocError> {
     let is_so = is_so(desk, case)?;
     Ok(is_so && are_left(desk))
 }

@@ -6,6 +6,7 @@ use std::sync::{Arc, Mutex, Wait};
 use std::thread;
 use zr_outside::log::Log;
 use zr_outside::sink::{Put, Sink};
+use zr_outside_brief::{Brief, BriefSink};
 use zr_outside_mem::mem_log::MemLog;
 use zr_outside_mem::mem_sink::MemSink;
 
@@ -33,6 +34,15 @@ impl<R: Wait + Drop> Sink for SeenSink<R> {
             self.faults = self.faults.saturating_add(1);
         }
         put
+    }
+}
+
+impl<R: Wait + Drop> BriefSink for SeenSink<R> {
+    fn write_briefly(&mut self, from: &[u8]) -> Brief {
+        match self.write(from) {
+            Put::Took(count) => Brief::Took(count),
+            Put::Failed => Brief::Failed,
+        }
     }
 }
 

@@ -1,5 +1,6 @@
 //! Two clients, whose threads run at once: what each sends waits for what was written before.
 
+use crate::link_sink::{LinkSink, To};
 use crate::links::{Begin, Desk, Watched, hand};
 use crate::seen::Want;
 use crate::wire::{
@@ -14,7 +15,8 @@ use zr_outside::sink::Sink;
 use zr_outside_crew::Crew;
 use zr_outside_mem::gate::{Gate, GateSink, GateSource, Part};
 use zr_outside_mem::mem_sink::MemSink;
-use zr_port::Port;
+use zr_port::Naming;
+use zr_router::Router;
 
 /// How often each reader reads at most.
 pub const TURNS: u64 = 100_000_000;
@@ -222,18 +224,15 @@ fn source(alloc: Global, gate: &Gate, talker: &Talker) -> Result<GateSource, All
 
 // Hands over the link of one of two clients. Its clocks stand still.
 fn begin<
-    P: Port + Send + Sync + Drop + 'static,
+    B: Naming + Send + Sync + 'static,
     R: Threads + Wait + Copy + Send + Sync + Drop + 'static,
 >(
-    desk: &mut Desk<P, R>,
+    desk: &mut Desk<Router<B, R, LinkSink<R>>, R>,
     number: u64,
     gate: &Gate,
     talker: &Talker,
     client: &mut Watched<R>,
-) -> Result<(), AllocError>
-where
-    P::Note: Send + 'static,
-{
+) -> Result<(), AllocError> {
     let begin = Begin {
         side: Side::Accepting,
         number,
@@ -243,6 +242,7 @@ where
     let writers = Crew::new(desk.rt, desk.alloc)?;
     let source = source(desk.alloc, gate, talker)?;
     let sink = GateSink::new(client.seen.sink(desk.rt)?, gate.share()?);
+    let sink = LinkSink::new(To::Gate(sink));
     hand(
         desk,
         &mut client.crew,
@@ -279,12 +279,9 @@ fn end_so<R: Threads + Wait + Drop>(
 
 /// Whether both clients of this router are written what the talk says.
 pub fn goes_so<
-    P: Port + Send + Sync + Drop + 'static,
+    B: Naming + Send + Sync + 'static,
     R: Threads + Wait + Copy + Send + Sync + Drop + 'static,
->(desk: &mut Desk<P, R>, talk: &Talk) -> Result<bool, AllocError>
-where
-    P::Note: Send + 'static,
-{
+>(desk: &mut Desk<Router<B, R, LinkSink<R>>, R>, talk: &Talk) -> Result<bool, AllocError> {
     let gate = Gate::new(desk.alloc)?;
     let mut stays = Watched::new(desk.rt, desk.alloc)?;
     let mut goes = Watched::new(desk.rt, desk.alloc)?;
@@ -295,14 +292,14 @@ where
 
 /// Whether a client of each of two routers is written what the talk says.
 pub fn goes_between<
-    P: Port + Send + Sync + Drop + 'static,
-    Q: Port + Send + Sync + Drop + 'static,
+    B: Naming + Send + Sync + 'static,
+    D: Naming + Send + Sync + 'static,
     R: Threads + Wait + Copy + Send + Sync + Drop + 'static,
->(desk: &mut Desk<P, R>, other: &mut Desk<Q, R>, talk: &Talk) -> Result<bool, AllocError>
-where
-    P::Note: Send + 'static,
-    Q::Note: Send + 'static,
-{
+>(
+    desk: &mut Desk<Router<B, R, LinkSink<R>>, R>,
+    other: &mut Desk<Router<D, R, LinkSink<R>>, R>,
+    talk: &Talk,
+) -> Result<bool, AllocError> {
     let gate = Gate::new(desk.alloc)?;
     let mut stays = Watched::new(desk.rt, desk.alloc)?;
     let mut goes = Watched::new(desk.rt, desk.alloc)?;

@@ -14,6 +14,7 @@ use zr_id::zid::Zid;
 use zr_msg::error::NodeError;
 use zr_msg::peer::{Peer, Role};
 use zr_msg::shared::Shared;
+use zr_outside_mem::mem_sink::MemSink;
 use zr_port::{DeliverError, DownError, Entry, Naming, UpError};
 use zr_ring::{Taker, Took};
 use zr_router::Router;
@@ -83,7 +84,7 @@ pub enum Told {
 #[derive(Drop)]
 struct Bench<B: Naming, R: Wait + Drop> {
     alloc: Global,
-    router: Router<B, R>,
+    router: Router<B, R, MemSink>,
     hand: Hand<B>,
     takers: Vec<Taker<Queued>>,
 }
@@ -279,7 +280,7 @@ fn wrong_at<B: Naming, R: Wait + Drop>(
     let hand = Hand::new(pass);
     let mut bench = Bench {
         alloc,
-        router: Router::<B, R>::new(rt, alloc, me, policy, history, kept)?,
+        router: Router::<B, R, MemSink>::new(rt, alloc, me, policy, history, kept)?,
         hand,
         takers: Vec::new(alloc),
     };

@@ -19,6 +19,7 @@ use zr_msg::msg::Msg;
 use zr_msg::peer::Peer;
 use zr_msg::shared::Shared;
 use zr_oam::read_oam;
+use zr_outside_mem::mem_sink::MemSink;
 use zr_port::{DeliverError, DownError, Entry, Naming, Port, UpError};
 use zr_ring::Taker;
 use zr_router::Router;
@@ -42,18 +43,18 @@ impl<B: Naming> Hand<B> {
         }
     }
 
-    pub fn split<R: Wait + Drop>(&mut self, router: &Router<B, R>) -> Hand<B> {
+    pub fn split<R: Wait + Drop>(&mut self, router: &Router<B, R, MemSink>) -> Hand<B> {
         Hand::new(router.split(&mut self.pass))
     }
 
-    pub fn join<R: Wait + Drop>(&mut self, router: &Router<B, R>, other: Hand<B>) {
+    pub fn join<R: Wait + Drop>(&mut self, router: &Router<B, R, MemSink>, other: Hand<B>) {
         let Hand { pass, of: _ } = other;
         router.join(&mut self.pass, pass);
     }
 
     pub fn up<R: Wait + Drop>(
         &mut self,
-        router: &Router<B, R>,
+        router: &Router<B, R, MemSink>,
         peer: Peer,
         outbox: Outbox,
     ) -> Result<(LinkNo, Taker<Queued>), UpError> {
@@ -64,7 +65,7 @@ impl<B: Naming> Hand<B> {
     pub fn deliver<R: Wait + Drop>(
         &mut self,
         alloc: Global,
-        router: &Router<B, R>,
+        router: &Router<B, R, MemSink>,
         link: u32,
         say: Say,
     ) -> Result<(), DeliverError> {
@@ -76,7 +77,7 @@ impl<B: Naming> Hand<B> {
 
     pub fn down<R: Wait + Drop>(
         &mut self,
-        router: &Router<B, R>,
+        router: &Router<B, R, MemSink>,
         link: u32,
         reason: Option<u8>,
     ) -> Result<(), DownError> {

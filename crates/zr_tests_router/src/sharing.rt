@@ -16,6 +16,7 @@ use zr_hist::{History, Kept, Pass};
 use zr_id::zid::Zid;
 use zr_msg::peer::Role;
 use zr_msg::shared::Shared;
+use zr_outside_mem::mem_sink::MemSink;
 use zr_port::{DeliverError, Entry, Naming};
 use zr_ring::{Bytes, Taker, Took};
 use zr_router::Router;
@@ -40,7 +41,7 @@ const FIRST_CLIENT: u8 = 11;
 // Delivers samples, and counts those that were.
 fn publish<B: Naming, R: Wait + Drop>(
     alloc: Global,
-    router: &Router<B, R>,
+    router: &Router<B, R, MemSink>,
     hand: &mut Hand<B>,
     link: u32,
 ) -> u32 {
@@ -86,7 +87,7 @@ fn is_frame(number: u32, bytes: &Bytes) -> bool {
 
 // A client comes up; its taker, where it has the next link.
 fn client<B: Naming, R: Wait + Drop>(
-    router: &Router<B, R>,
+    router: &Router<B, R, MemSink>,
     hand: &mut Hand<B>,
     link: u32,
 ) -> Result<Taker<Queued>, AllocError> {
@@ -100,7 +101,7 @@ fn client<B: Naming, R: Wait + Drop>(
 // Two clients come up that publish, and one that subscribes, whose taker comes back.
 fn clients<B: Naming, R: Wait + Drop>(
     alloc: Global,
-    router: &Router<B, R>,
+    router: &Router<B, R, MemSink>,
     hand: &mut Hand<B>,
 ) -> Result<Taker<Queued>, AllocError> {
     let _one = client(router, hand, ONE)?;
@@ -117,7 +118,7 @@ fn clients<B: Naming, R: Wait + Drop>(
 fn publish_both<B: Naming + Send + Sync, R: Threads + Wait + Copy + Send + Sync + Drop>(
     rt: R,
     alloc: Global,
-    router: &Router<B, R>,
+    router: &Router<B, R, MemSink>,
     hand: &mut Hand<B>,
     other: &mut Hand<B>,
 ) -> (u32, u32) {
@@ -132,7 +133,7 @@ fn publish_both<B: Naming + Send + Sync, R: Threads + Wait + Copy + Send + Sync 
 // these were delivered, and whether its link is refused for the full ring then.
 fn fill<B: Naming, R: Wait + Drop>(
     alloc: Global,
-    router: &Router<B, R>,
+    router: &Router<B, R, MemSink>,
     hand: &mut Hand<B>,
     is_full: &AtomicBool,
 ) -> (u32, u32) {
@@ -177,7 +178,7 @@ fn hold<W: Wait>(rt: &W, taker: &mut Taker<Queued>, is_full: &AtomicBool) -> (u3
 fn fill_beside<B: Naming + Send + Sync, R: Threads + Wait + Copy + Send + Sync + Drop>(
     rt: R,
     alloc: Global,
-    router: &Router<B, R>,
+    router: &Router<B, R, MemSink>,
     hand: &mut Hand<B>,
     taker: &mut Taker<Queued>,
 ) -> [u32; 4] {
@@ -194,7 +195,7 @@ fn fill_beside<B: Naming + Send + Sync, R: Threads + Wait + Copy + Send + Sync +
 fn share_at<B: Naming + Send + Sync, R: Threads + Wait + Copy + Send + Sync + Drop>(
     rt: R,
     alloc: Global,
-    router: &Router<B, R>,
+    router: &Router<B, R, MemSink>,
     hand: &mut Hand<B>,
 ) -> Result<([u32; 4], [u32; 4]), AllocError> {
     let mut taker = clients(alloc, router, hand)?;
@@ -224,7 +225,7 @@ fn share<B: Naming + Send + Sync, R: Threads + Wait + Copy + Send + Sync + Drop>
     requires ruled { policy ≡ B.policy }
 {
     let mut hand = Hand::new(pass);
-    let router = Router::<B, R>::new(rt, alloc, me, policy, history, kept)?;
+    let router = Router::<B, R, MemSink>::new(rt, alloc, me, policy, history, kept)?;
     share_at(rt, alloc, &router, &mut hand)
 }
 

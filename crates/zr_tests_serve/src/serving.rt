@@ -12,6 +12,7 @@ use zr_dial::{Dial, read_dial};
 use zr_id::zid::Zid;
 use zr_link_job::{LinkJob, ServeJob, Side};
 use zr_outside::host::Host;
+use zr_outside_brief::BriefSink;
 use zr_outside_crew::Crew;
 use zr_outside_mem::mem_host::MemHost;
 use zr_outside_mem::mem_sink::MemSink;
@@ -183,7 +184,7 @@ fn ended<H: Host, R: Threads + Wait + Copy + Send + Sync + Drop + 'static>(
 ) -> ServeEnd
 where
     H::In: 'static,
-    H::Out: 'static,
+    H::Out: BriefSink + 'static,
     H::Time: 'static,
     H::Log: 'static,
 {

@@ -86,9 +86,9 @@ fn session(alloc: Global, me: Zid) -> Session
 fn outward<B: Naming, R: Wait + Copy + Drop>(
     rt: R,
     alloc: Global,
-    router: Router<B, R>,
+    router: Router<B, R, SharedSink<R>>,
     bytes: &Arc<Mutex<Vec<u8>>>,
-) -> Result<Outward<SharedSink<R>, Router<B, R>, MemClock, MemLog>, AllocError> {
+) -> Result<Outward<SharedSink<R>, Router<B, R, SharedSink<R>>, MemClock, MemLog>, AllocError> {
     let port = Arc::new(alloc, router)?;
     let sink = SharedSink::new(rt, bytes)?;
     Ok(Outward {
@@ -108,7 +108,7 @@ fn ended<
     alloc: Global,
     me: Zid,
     source: &mut MemSource,
-    out: Outward<SharedSink<R>, Router<B, R>, MemClock, MemLog>,
+    out: Outward<SharedSink<R>, Router<B, R, SharedSink<R>>, MemClock, MemLog>,
     crew: &mut Crew<R, LinkNo>,
     pass: &mut Pass<Entry>,
 ) -> LinkEnd
@@ -140,7 +140,7 @@ fn is_left<
     alloc: Global,
     me: Zid,
     source: &mut MemSource,
-    out: Outward<SharedSink<R>, Router<B, R>, MemClock, MemLog>,
+    out: Outward<SharedSink<R>, Router<B, R, SharedSink<R>>, MemClock, MemLog>,
     pass: &mut Pass<Entry>,
 ) -> Result<bool, AllocError>
     requires { pass_name pass.old ≡ B.history }
@@ -174,7 +174,7 @@ fn is_answered_at<
 {
     let mut pass = pass;
     let bytes = no_bytes(alloc)?;
-    let router = Router::<B, R>::new(rt, alloc, me, policy, history, kept)?;
+    let router = Router::<B, R, SharedSink<R>>::new(rt, alloc, me, policy, history, kept)?;
     let out = outward(rt, alloc, router, &bytes)?;
     let is_left = is_left(rt, alloc, me, source, out, &mut pass)?;
     Ok(is_left && hold(&rt, &bytes, want))

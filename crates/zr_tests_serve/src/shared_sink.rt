@@ -3,6 +3,7 @@
 use std::alloc::{AllocError, Global};
 use std::sync::{Arc, Mutex, Wait};
 use zr_outside::sink::{Put, Sink};
+use zr_outside_brief::{Brief, BriefSink};
 
 /// Appends to bytes that threads share.
 #[derive(Drop)]
@@ -37,6 +38,15 @@ impl<R: Wait + Drop> Sink for SharedSink<R> {
         }
         self.faults = self.faults.saturating_add(1);
         Put::Failed
+    }
+}
+
+impl<R: Wait + Drop> BriefSink for SharedSink<R> {
+    fn write_briefly(&mut self, from: &[u8]) -> Brief {
+        match self.write(from) {
+            Put::Took(count) => Brief::Took(count),
+            Put::Failed => Brief::Failed,
+        }
     }
 }
 

@@ -31,6 +31,7 @@ use zr_netrun::status::Status;
 use zr_outside::host::Host;
 use zr_outside::sink::Sink;
 use zr_outside::source::Source;
+use zr_outside_brief::BriefSink;
 use zr_outside_crew::Crew;
 use zr_rules::{RulesEnd, RulesError, read_rules, tell_refusal};
 use zr_serve::{ServeEnd, ServePlan};
@@ -58,7 +59,7 @@ pub fn run_asked<
 ) -> Status
 where
     H::In: 'static,
-    H::Out: 'static,
+    H::Out: BriefSink + 'static,
     H::Time: 'static,
     H::Log: 'static,
     ensures report { IfSome (net_of (map string_bytes words.now)) (λ plan. WritesAsAsked (options_by plan) (S.left input.old) (S.left input.new) (IsReadToEnd (S.ends input.old) (S.ends input.new) (S.quiets input.old) (S.quiets input.new)) result (K.held out.old) (K.held out.new) (E.held err.old) (E.held err.new)) }
@@ -144,7 +145,7 @@ fn serve<
 ) -> Status
 where
     H::In: 'static,
-    H::Out: 'static,
+    H::Out: BriefSink + 'static,
     H::Time: 'static,
     H::Log: 'static,
     ensures served { IsServingBy (served_as words) result (S.left input.old) (S.left input.new) (IsReadToEnd (S.ends input.old) (S.ends input.new) (S.quiets input.old) (S.quiets input.new)) (H.generators host.old) (H.generators host.new) (H.calls host.old) (H.calls host.new) (crew_told crew.old) (crew_told crew.new) (crew_faults crew.old) (crew_faults crew.new) (outputs (K.held out.old) (E.held err.old) (E.faults err.old)) (outputs (K.held out.new) (E.held err.new) (E.faults err.new)) }
@@ -194,7 +195,7 @@ fn serve_by<K: Sink, E: Sink, H: Host, R: Threads + Wait + Copy + Send + Sync + 
 ) -> Status
 where
     H::In: 'static,
-    H::Out: 'static,
+    H::Out: BriefSink + 'static,
     H::Time: 'static,
     H::Log: 'static,
     ensures served { IsServing (served_as words) policy result (H.generators host.old) (H.generators host.new) (H.calls host.old) (H.calls host.new) (crew_told crew.old) (crew_told crew.new) (crew_faults crew.old) (crew_faults crew.new) (outputs (K.held out.old) (E.held err.old) (E.faults err.old)) (outputs (K.held out.new) (E.held err.new) (E.faults err.new)) }

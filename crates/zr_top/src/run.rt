@@ -76,6 +76,7 @@ use zr_netrun::status::Status;
 use zr_outside::host::Host;
 use zr_outside::sink::Sink;
 use zr_outside::source::Source;
+use zr_outside_brief::BriefSink;
 use zr_outside_crew::Crew;
 use zr_pend_spec::laws::gathered_is_best;
 use zr_rules::{carets_are_under_wrong_keys, carets_are_under_wrong_words};
@@ -152,7 +153,7 @@ pub fn run<
 ) -> Status
 where
     H::In: 'static,
-    H::Out: 'static,
+    H::Out: BriefSink + 'static,
     H::Time: 'static,
     H::Log: 'static,
     ensures report { IfSome (net_of (map string_bytes words.now)) (λ plan. WritesAsAsked (options_by plan) (S.left input.old) (S.left input.new) (IsReadToEnd (S.ends input.old) (S.ends input.new) (S.quiets input.old) (S.quiets input.new)) result (K.held out.old) (K.held out.new) (E.held err.old) (E.held err.new)) }

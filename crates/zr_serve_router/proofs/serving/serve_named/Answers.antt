@@ -23,10 +23,10 @@ pub serve-requires-send-P : goal.serve-requires-send-P
 serve-requires-send-P g c κs within =
     let b : IsSend (param 4 g.row.B) = search (c.type_bounds.send-B, sendable) in
     let r : IsSend (copied 3 g.row.R) = search (c.type_bounds.send-R, sendable) in
-    param_send _ _ (arg_send _ no _ (router_send _ _ g.B.Naming b r))
+    param_send _ _ (arg_send _ no _ (router_send _ _ _ g.B.Naming _ b r (search (c.type_bounds, sendable))))
 
 pub serve-requires-sync-P : goal.serve-requires-sync-P
 serve-requires-sync-P g c κs within =
     let b : IsSend (param 4 g.row.B) = search (c.type_bounds.send-B, sendable) in
     let y : IsSync (copied 3 g.row.R) = search (c.type_bounds.sync-R, sendable) in
-    param_sync _ _ (arg_sync _ no _ (router_sync _ _ g.B.Naming b y))
+    param_sync _ _ (arg_sync _ no _ (router_sync _ _ _ g.B.Naming _ b y (search (c.type_bounds, sendable))))

@@ -12,6 +12,10 @@ use denote.Struct.Struct.{Struct}
 use denote.Struct.Tuple.{TupleAt, type_at}
 use Rattle.std.proofs.alloc.Global.TheSendSync.{the_sync as heap_sync}
 use Rattle.std.specs.contracts.alloc.Global.{the_row as heap}
+use Rattle.zr_outside.specs.declared.sink.Sink as sink
+use Rattle.zr_outside_mem.proofs.mem_sink.MemSink.TheSendSync.{the_send as sink_send}
+use Rattle.zr_outside_mem.specs.contracts.mem_sink.MemSink.{the_row as mem_sink}
+use Rattle.zr_outside_mem.specs.contracts.mem_sink.MemSinkSink.TheImpl.{ghosts as mem_ghosts}
 use Rattle.zr_port.specs.declared.naming.Naming.{Ghosts}
 use Rattle.zr_router.specs.contracts.router.Router.{the_row as router}
 use Rattle.zr_router.proofs.Crossing.{router_sync}
@@ -20,13 +24,14 @@ use Rattle.zr_tests_router.specs.contracts.desk.Hand.{the_row as hand}
 use Rattle.zr_tests_router.proofs.sharing.publish_both.Goals as goal
 
 -- what a closure holds that publishes over a shared router
-captured : (name : List ℕ) (B R : RattleType) (g : Ghosts B.Denot) (i j k : Lifetime) (α β γ : Lft) → IsSync (router B R g) → IsSend (TupleAt name (ShrRef i α heap ∷ ShrRef j β (router B R g) ∷ MutRef k γ (hand B g) ∷ []))
-captured name B R g i j k α β γ shared =
-    let T = type_at name (ShrRef i α heap ∷ ShrRef j β (router B R g) ∷ MutRef k γ (hand B g) ∷ []) in
-    let all : AllSend (declared.shape T).fields = (shr_send i α heap heap_sync, (shr_send j β (router B R g) shared, (mut_send k γ (hand B g) (hand_send B g), tt))) in
+captured : (name : List ℕ) (B R K : RattleType) (g : Ghosts B.Denot) (s : sink.Ghosts K.Denot) (i j k : Lifetime) (α β γ : Lft) → IsSync (router B R K g s)
+    → IsSend (TupleAt name (ShrRef i α heap ∷ ShrRef j β (router B R K g s) ∷ MutRef k γ (hand B g) ∷ []))
+captured name B R K g s i j k α β γ shared =
+    let T = type_at name (ShrRef i α heap ∷ ShrRef j β (router B R K g s) ∷ MutRef k γ (hand B g) ∷ []) in
+    let all : AllSend (declared.shape T).fields = (shr_send i α heap heap_sync, (shr_send j β (router B R K g s) shared, (mut_send k γ (hand B g) (hand_send B g), tt))) in
     recorded_send (Struct (declared.shape T)) T.D T.to T.to_one (struct_send (declared.shape T) all)
 
 pub join-requires-send-F : goal.join-requires-send-F
 join-requires-send-F g c κs within =
-    let shared = router_sync (param 0 g.row.B) (copied 1 g.row.R) g.B.Naming c.type_bounds.send-B c.type_bounds.sync-R in
-    param_send 1 _ (arg_send _ no _ (captured _ (param 0 g.row.B) (copied 1 g.row.R) g.B.Naming _ _ _ _ _ _ shared))
+    let shared = router_sync (param 0 g.row.B) (copied 1 g.row.R) mem_sink g.B.Naming mem_ghosts c.type_bounds.send-B c.type_bounds.sync-R sink_send in
+    param_send 1 _ (arg_send _ no _ (captured _ (param 0 g.row.B) (copied 1 g.row.R) mem_sink g.B.Naming mem_ghosts _ _ _ _ _ _ shared))
