@@ -6,7 +6,7 @@ ghost use Rattle.zr_outside.specs.Told.{Appends, AppendsPrefix};
 ghost use Rattle.zr_ring.specs.Items.{end_of};
 ghost use Rattle.zr_ring.specs.Taker.{taken, take_calls, IsSameTaker};
 ghost use Rattle.zr_link_writer.specs.Step.{OnGoing};
-ghost use Rattle.zr_link_writer.specs.Brief.{FaultsBriefly, GoesBriefly};
+ghost use Rattle.zr_link_writer.specs.Brief.{FaultsBriefly, GoesBriefly, TakesShort};
 ghost use Rattle.zr_link_writer.specs.Writing.{GoesOn, EndsIn};
 ghost use Rattle.zr_link_writer.specs.declared.end.Stop.TheVariants.{Fault};
 
@@ -17,6 +17,9 @@ use zr_outside::clock::Clock;
 use zr_outside::sink::Sink;
 use zr_outside_brief::BriefSink;
 use zr_ring::{Note, Parcel, Taker, Took};
+
+/// The most bytes of a parcel that others than the writer write. A long one may keep them waiting for a peer that reads, and they have other work.
+const MOST_BRIEF: usize = 32_768;
 
 /// What came of asking the ring once.
 #[derive(Clone, Copy)]
@@ -38,7 +41,7 @@ pub(crate) enum Briefly<N: Note + Drop> {
     Nothing,
     /// Something waits for want of room, or the end was taken.
     Waits,
-    /// This parcel waits, since there was no room to join it, or no memory.
+    /// This parcel waits, since it is long, or there was no room to join it, or no memory.
     Unjoined(Parcel<N>),
     /// A write failed.
     Fault,
@@ -87,14 +90,15 @@ pub(crate) fn take_one<K: Sink, N: Note + Drop, C: Clock>(
     }
 }
 
-/// Asks the ring once. A parcel is joined to what waits, where both have room in one write or some is written; where there is nothing, what waits is
-/// written. No write waits long, and none is tried again.
+/// Asks the ring once. A short parcel is joined to what waits, where both have room in one write or some is written; where there is nothing, what waits
+/// is written. No write waits long, and none is tried again.
 pub(crate) fn take_briefly<K: BriefSink, N: Note + Drop>(
     sink: &mut K,
     taker: &mut Taker<N>,
     joined: &mut Joined,
 ) -> Briefly<N>
     ensures goes { GoesBriefly result (taken taker.old) (taken taker.new) joined.old.moment joined.old.bytes.items joined.new.bytes.items (K.held sink.old) (K.held sink.new) }
+    ensures short { result ≡ Briefly.More → TakesShort (taken taker.old) (taken taker.new) }
     ensures idle { result ≡ Briefly.Nothing → joined.new.bytes.items ≡ [] }
     ensures faults { FaultsBriefly result (K.faults sink.old) (K.faults sink.new) }
     ensures moment { joined.new.moment ≡ joined.old.moment }
@@ -104,6 +108,9 @@ pub(crate) fn take_briefly<K: BriefSink, N: Note + Drop>(
     match taker.take() {
         Took::Parcel(parcel) => {
             let (head, body) = parcel.bytes.parts();
+            if head.len() + body.len() > MOST_BRIEF {
+                return Briefly::Unjoined(parcel);
+            }
             match joined.add_briefly(sink, head, body) {
                 Wrote::All => Briefly::More,
                 Wrote::Part => Briefly::Unjoined(parcel),
