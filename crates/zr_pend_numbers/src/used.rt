@@ -4,12 +4,13 @@ ghost use Rattle.std.specs.Prelude.{◌≡◌, ◌==◌, ◌≤◌, ◌<◌, ◌
 ghost use Rattle.zr_pend_numbers.specs.Numbers.{is_in, rises};
 
 use std::alloc::{AllocError, Global};
+use std::collections::VecDeque;
 use std::marker::Model;
 
-/// Numbers in ascending order, each once.
+/// Numbers in ascending order, each once. They stand in a ring: where the least goes, none moves, and elsewhere the fewer on one side do.
 #[derive(Drop)]
 pub struct Used {
-    items: Vec<u32>,
+    items: VecDeque<u32>,
 }
 
 impl Model for Used {
@@ -29,7 +30,7 @@ impl Used {
         ensures { result ≡ [] }
     {
         Used {
-            items: Vec::new(alloc),
+            items: VecDeque::new(alloc),
         }
     }
 
@@ -62,7 +63,7 @@ impl Used {
         ensures items { IfOk result (λ ns. ns.items ≡ self.now) }
         ensures up { rises 0 self.now ≡ true }
     {
-        Vec::from_slice(alloc, &self.items)
+        self.items.iter().copied().collect(alloc)
     }
 
     /// A number is in use.
@@ -82,9 +83,9 @@ impl Used {
 }
 
 #[tactic(auto, using(crate::proofs::Rising::in_here, crate::proofs::Rising::gap_free))]
-fn has(numbers: &[u32], number: u32) -> bool
-    requires { rises 0 numbers.now ≡ true }
-    ensures { result ≡ is_in number numbers.now }
+fn has(numbers: &VecDeque<u32>, number: u32) -> bool
+    requires { rises 0 numbers.now.items ≡ true }
+    ensures { result ≡ is_in number numbers.now.items }
 {
     match find(numbers, number) {
         Ok(_) => true,
@@ -93,25 +94,25 @@ fn has(numbers: &[u32], number: u32) -> bool
 }
 
 #[tactic(auto, using(crate::proofs::Rising::in_here, crate::proofs::Rising::put_again, crate::proofs::Rising::put_in, crate::proofs::Rising::put_rises))]
-fn put(numbers: &mut Vec<u32>, number: u32) -> Result<(), AllocError>
+fn put(numbers: &mut VecDeque<u32>, number: u32) -> Result<(), AllocError>
     requires up { rises 0 numbers.old.items ≡ true }
     ensures up { rises 0 numbers.new.items ≡ true }
     ensures ok { OnOk result ((m : ℕ) → is_in m numbers.new.items ≡ (number == m || is_in m numbers.old.items)) }
     ensures err { OnErr result (numbers.new.items ≡ numbers.old.items) }
 {
-    match find(numbers.as_slice(), number) {
+    match find(numbers, number) {
         Ok(_) => Ok(()),
         Err(at) => Ok(numbers.insert(at, number)?),
     }
 }
 
 #[tactic(auto, using(crate::proofs::Rising::gap_free, crate::proofs::Rising::take_in, crate::proofs::Rising::take_none, crate::proofs::Rising::take_rises))]
-fn take(numbers: &mut Vec<u32>, number: u32)
+fn take(numbers: &mut VecDeque<u32>, number: u32)
     requires { rises 0 numbers.old.items ≡ true }
     ensures up { rises 0 numbers.new.items ≡ true }
     ensures others { (m : ℕ) → is_in m numbers.new.items ≡ (not (number == m) && is_in m numbers.old.items) }
 {
-    match find(numbers.as_slice(), number) {
+    match find(numbers, number) {
         Ok(at) => {
             numbers.remove(at);
         }
@@ -120,23 +121,23 @@ fn take(numbers: &mut Vec<u32>, number: u32)
 }
 
 // Where a number stands, or else where it would.
-fn find(numbers: &[u32], number: u32) -> Result<usize, usize>
-    requires { rises 0 numbers.now ≡ true }
-    ensures within { IfOk result (λ at. at < length numbers.now) }
-    ensures here { IfOk result (λ at. slice_index_or numbers.now at 0 ≡ number) }
-    ensures gap { IfErr result (λ at. at ≤ length numbers.now) }
-    ensures below { IfErr result (λ at. (i : ℕ) → i < at → slice_index_or numbers.now i 0 < number) }
-    ensures above { IfErr result (λ at. (i : ℕ) → at ≤ i → i < length numbers.now → number < slice_index_or numbers.now i 0) }
+fn find(numbers: &VecDeque<u32>, number: u32) -> Result<usize, usize>
+    requires { rises 0 numbers.now.items ≡ true }
+    ensures within { IfOk result (λ at. at < length numbers.now.items) }
+    ensures here { IfOk result (λ at. slice_index_or numbers.now.items at 0 ≡ number) }
+    ensures gap { IfErr result (λ at. at ≤ length numbers.now.items) }
+    ensures below { IfErr result (λ at. (i : ℕ) → i < at → slice_index_or numbers.now.items i 0 < number) }
+    ensures above { IfErr result (λ at. (i : ℕ) → at ≤ i → i < length numbers.now.items → number < slice_index_or numbers.now.items i 0) }
 {
     numbers.binary_search(&number)
 }
 
 // The place at which a number stands, or else would.
-fn place_of(numbers: &[u32], number: u32) -> usize
-    requires { rises 0 numbers.now ≡ true }
-    ensures within { result ≤ length numbers.now }
-    ensures below { (i : ℕ) → i < result → slice_index_or numbers.now i 0 < number }
-    ensures above { (i : ℕ) → result ≤ i → i < length numbers.now → number ≤ slice_index_or numbers.now i 0 }
+fn place_of(numbers: &VecDeque<u32>, number: u32) -> usize
+    requires { rises 0 numbers.now.items ≡ true }
+    ensures within { result ≤ length numbers.now.items }
+    ensures below { (i : ℕ) → i < result → slice_index_or numbers.now.items i 0 < number }
+    ensures above { (i : ℕ) → result ≤ i → i < length numbers.now.items → number ≤ slice_index_or numbers.now.items i 0 }
 {
     match find(numbers, number) {
         Ok(at) => at,
@@ -145,24 +146,24 @@ fn place_of(numbers: &[u32], number: u32) -> usize
 }
 
 // The least number, from 1, that isn't among these.
-fn first_gap(numbers: &[u32]) -> u64
-    requires up { rises 0 numbers.now ≡ true }
+fn first_gap(numbers: &VecDeque<u32>) -> u64
+    requires up { rises 0 numbers.now.items ≡ true }
     ensures positive { 1 ≤ result }
-    ensures free { is_in result numbers.now ≡ false }
-    ensures least { (k : ℕ) → 1 ≤ k → k < result → is_in k numbers.now ≡ true }
+    ensures free { is_in result numbers.now.items ≡ false }
+    ensures least { (k : ℕ) → 1 ≤ k → k < result → is_in k numbers.now.items ≡ true }
 {
     gap_from(numbers, place_of(numbers, 1))
 }
 
 // The same, where the numbers from 1 on stand from this place on: up to it each stands at its own.
-fn gap_from(numbers: &[u32], first: usize) -> u64
-    requires up { rises 0 numbers.now ≡ true }
-    requires within { first ≤ length numbers.now }
-    requires below { (i : ℕ) → i < first → slice_index_or numbers.now i 0 < 1 }
-    requires above { (i : ℕ) → first ≤ i → i < length numbers.now → 1 ≤ slice_index_or numbers.now i 0 }
+fn gap_from(numbers: &VecDeque<u32>, first: usize) -> u64
+    requires up { rises 0 numbers.now.items ≡ true }
+    requires within { first ≤ length numbers.now.items }
+    requires below { (i : ℕ) → i < first → slice_index_or numbers.now.items i 0 < 1 }
+    requires above { (i : ℕ) → first ≤ i → i < length numbers.now.items → 1 ≤ slice_index_or numbers.now.items i 0 }
     ensures positive { 1 ≤ result }
-    ensures free { is_in result numbers.now ≡ false }
-    ensures least { (k : ℕ) → 1 ≤ k → k < result → is_in k numbers.now ≡ true }
+    ensures free { is_in result numbers.now.items ≡ false }
+    ensures least { (k : ℕ) → 1 ≤ k → k < result → is_in k numbers.now.items ≡ true }
 {
     let (mut from, mut left) = (first, numbers.len() - first);
     'halves: while left > 0 {

@@ -9,6 +9,7 @@ ghost use Rattle.zr_pend_spec.specs.Row.{is_branch};
 
 use crate::row::Row;
 use std::alloc::{AllocError, Global};
+use std::collections::VecDeque;
 use zr_pend_numbers::numbers::Numbers;
 use zr_pend_spec::branch::{Asker, Branch};
 
@@ -23,8 +24,8 @@ pub fn as_branch(asker: Asker) -> Branch
 }
 
 /// The numbers under which each link has asked.
-pub fn askers_in(alloc: Global, rows: &[Row]) -> Result<Numbers, AllocError>
-    ensures { IfOk result (λ ns. AreAsked ns rows.now) }
+pub fn askers_in(alloc: Global, rows: &VecDeque<Row>) -> Result<Numbers, AllocError>
+    ensures { IfOk result (λ ns. AreAsked ns rows.now.items) }
 {
     let mut asked = Numbers::new(alloc);
     for row in rows {

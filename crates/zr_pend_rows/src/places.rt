@@ -2,7 +2,7 @@
 
 use crate::row::Row;
 use std::alloc::{AllocError, Global};
-use std::collections::BTreeMap;
+use std::collections::{BTreeMap, VecDeque};
 use zr_id::link::LinkNo;
 use zr_pend_spec::branch::Branch;
 
@@ -26,7 +26,7 @@ impl Places {
     }
 
     /// Those of these rows once more.
-    pub fn copy(&self, alloc: Global, rows: &[Row]) -> Result<Places, AllocError> {
+    pub fn copy(&self, alloc: Global, rows: &VecDeque<Row>) -> Result<Places, AllocError> {
         let mut copy = Places::new(alloc);
         for row in rows {
             copy.put_at(row.place(), row.branches())?;

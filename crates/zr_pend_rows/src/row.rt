@@ -5,6 +5,7 @@ ghost use Rattle.std.specs.List.{list_all};
 ghost use Rattle.zr_pend_spec.specs.Row.{is_branch, has, is_done, is_last, is_of, without, orphaned};
 
 use std::alloc::{AllocError, Global};
+use std::collections::VecDeque;
 use std::marker::Model;
 use zr_id::link::LinkNo;
 use zr_pend_spec::branch::{Asker, Branch};
@@ -134,12 +135,12 @@ fn end_branch(branches: &mut Vec<Branch>, branch: Branch)
 }
 
 /// Second rows, equal to these.
-pub fn copies_of(alloc: Global, rows: &[Row]) -> Result<Vec<Row>, AllocError>
-    ensures { IfOk result (λ v. v.items ≡ rows.now) }
+pub fn copies_of(alloc: Global, rows: &VecDeque<Row>) -> Result<VecDeque<Row>, AllocError>
+    ensures { IfOk result (λ v. v.items ≡ rows.now.items) }
 {
-    let mut copies = Vec::with_capacity(alloc, rows.len())?;
+    let mut copies = VecDeque::with_capacity(alloc, rows.len())?;
     for row in rows {
-        copies.push(row.copy(alloc)?)?;
+        copies.push_back(row.copy(alloc)?)?;
     }
     Ok(copies)
 }

@@ -4,6 +4,7 @@ ghost use Rattle.std.specs.Prelude.{◌≡◌, ◌==◌, ◌≤◌, ◌<◌, ◌
 ghost use Rattle.std.specs.List.{list_any, fold};
 ghost use Rattle.std.specs.Option.{option_to_list};
 ghost use Rattle.std.specs.Vec.{vec_len, vec_capacity};
+ghost use Rattle.std.specs.VecDeque.{deque_len, deque_capacity};
 ghost use Rattle.zr_pend_rows.specs.Ending.{all_ended, ended, finals_among, left};
 ghost use Rattle.zr_pend_rows.specs.Tied.{ArePending};
 ghost use Rattle.zr_pend_spec.specs.Row.{has, is_last};
@@ -12,6 +13,7 @@ ghost use Rattle.zr_pend_spec.specs.Pending.{IsSound, asker_of, is_pending, numb
 use crate::places::Places;
 use crate::row::Row;
 use std::alloc::{AllocError, Global};
+use std::collections::VecDeque;
 use zr_id::link::LinkNo;
 use zr_pend_numbers::numbers::Numbers;
 use zr_pend_spec::branch::{Asker, Branch};
@@ -24,8 +26,8 @@ pub fn numbers_of(alloc: Global, branches: &[Branch]) -> Result<Vec<u32>, AllocE
 }
 
 /// The numbers that are pending on each link.
-pub fn numbers_in(alloc: Global, rows: &[Row]) -> Result<Numbers, AllocError>
-    ensures { IfOk result (λ ns. ArePending ns rows.now) }
+pub fn numbers_in(alloc: Global, rows: &VecDeque<Row>) -> Result<Numbers, AllocError>
+    ensures { IfOk result (λ ns. ArePending ns rows.now.items) }
 {
     let mut numbers = Numbers::new(alloc);
     for row in rows {
@@ -35,18 +37,18 @@ pub fn numbers_in(alloc: Global, rows: &[Row]) -> Result<Numbers, AllocError>
 }
 
 /// Puts a row behind the others. There is room for it.
-pub fn put(rows: &mut Vec<Row>, row: Row)
-    requires { vec_len rows.old + 1 ≤ vec_capacity rows.old }
+pub fn put(rows: &mut VecDeque<Row>, row: Row)
+    requires { deque_len rows.old + 1 ≤ deque_capacity rows.old }
     ensures { rows.new.items ≡ rows.old.items ++ row ∷ [] }
 {
-    let _ = rows.push(row);
+    rows.push_back_reserved(row);
 }
 
 /// Who asked the row of a branch.
 #[tactic(auto, using(crate::proofs::Ending::asker_at, crate::proofs::Ending::none_asked))]
-pub fn asker_of(rows: &[Row], places: &Places, branch: Branch) -> Option<Asker>
-    requires sound { IsSound rows.now }
-    ensures { result ≡ asker_of branch rows.now }
+pub fn asker_of(rows: &VecDeque<Row>, places: &Places, branch: Branch) -> Option<Asker>
+    requires sound { IsSound rows.now.items }
+    ensures { result ≡ asker_of branch rows.now.items }
 {
     match row_of(rows, places.get(branch), branch) {
         Some(at) => rows[at].asker(),
@@ -56,13 +58,13 @@ pub fn asker_of(rows: &[Row], places: &Places, branch: Branch) -> Option<Asker>
 
 /// Ends a branch: who gets the final, where there is one.
 #[tactic(auto, using(zr_pend_spec::proofs::OneEnd::none_ends, zr_pend_spec::proofs::OneEnd::none_final))]
-pub fn finish(rows: &mut Vec<Row>, places: &mut Places, branch: Branch) -> Option<Asker>
+pub fn finish(rows: &mut VecDeque<Row>, places: &mut Places, branch: Branch) -> Option<Asker>
     requires sound { IsSound rows.old.items }
     ensures asker { result ≡ final_to rows.old.items branch }
     ensures rows { rows.new.items ≡ finished rows.old.items branch }
 {
     let place = places.take(branch);
-    match row_of(rows.as_slice(), place, branch) {
+    match row_of(rows, place, branch) {
         Some(at) => end_at(rows, at, branch),
         None => None,
     }
@@ -72,7 +74,7 @@ pub fn finish(rows: &mut Vec<Row>, places: &mut Places, branch: Branch) -> Optio
 /// behind the askers.
 #[tactic(auto, using(crate::proofs::Ending::orphaned_distinct, crate::proofs::Ending::dropped_left, crate::proofs::Ending::dropped_finals))]
 pub fn drop_link(
-    rows: &mut Vec<Row>,
+    rows: &mut VecDeque<Row>,
     places: &mut Places,
     link: LinkNo,
     numbers: &[u32],
@@ -89,10 +91,10 @@ pub fn drop_link(
     places.take_all(link, numbers);
 }
 
-fn orphan_all(rows: &mut Vec<Row>, link: LinkNo)
+fn orphan_all(rows: &mut VecDeque<Row>, link: LinkNo)
     ensures { rows.new.items ≡ all_orphaned link rows.old.items }
 {
-    orphan(rows.as_mut_slice(), link);
+    orphan(rows.make_contiguous(), link);
 }
 
 // What a link asked has no asker any more.
@@ -107,7 +109,7 @@ fn orphan(rows: &mut [Row], link: LinkNo)
 // Ends the branches of a link that have these numbers, one after another, and puts those who get a final behind the askers. Rows of which no
 // branch is left stay.
 fn end_all(
-    rows: &mut Vec<Row>,
+    rows: &mut VecDeque<Row>,
     places: &Places,
     link: LinkNo,
     numbers: &[u32],
@@ -130,19 +132,19 @@ fn end_all(
 
 // Ends a branch in the row that has it, which stays: who gets the final, where there is one.
 #[tactic(auto, using(crate::proofs::Ending::none_ended, zr_pend_spec::proofs::OneEnd::none_final))]
-fn end_in(rows: &mut Vec<Row>, place: Option<u64>, branch: Branch) -> Option<Asker>
+fn end_in(rows: &mut VecDeque<Row>, place: Option<u64>, branch: Branch) -> Option<Asker>
     requires distinct { are_distinct (branches rows.old.items) ≡ true }
     ensures asker { result ≡ final_to rows.old.items branch }
     ensures rows { rows.new.items ≡ ended rows.old.items branch }
 {
-    match row_of(rows.as_slice(), place, branch) {
+    match row_of(rows, place, branch) {
         Some(at) => end_there(rows, at, branch),
         None => None,
     }
 }
 
 #[tactic(auto, using(crate::proofs::Ending::ended_at, crate::proofs::Ending::final_at))]
-fn end_there(rows: &mut Vec<Row>, at: usize, branch: Branch) -> Option<Asker>
+fn end_there(rows: &mut VecDeque<Row>, at: usize, branch: Branch) -> Option<Asker>
     requires distinct { are_distinct (branches rows.old.items) ≡ true }
     requires within { at < length rows.old.items }
     requires has { (d : Row) → has branch (slice_index_or rows.old.items at d) ≡ true }
@@ -166,17 +168,17 @@ fn final_of(row: &Row, branch: Branch) -> Option<Asker>
 }
 
 // Rows of which no branch is left go.
-fn leave(rows: &mut Vec<Row>)
+fn leave(rows: &mut VecDeque<Row>)
     ensures { rows.new.items ≡ left rows.old.items }
 {
     rows.retain(|row| !row.is_done());
 }
 
 // The place of the row that has a branch: where it stands by its place in the order in which rows began, or else where it is found.
-fn row_of(rows: &[Row], place: Option<u64>, branch: Branch) -> Option<usize>
-    ensures none { result ≡ None → is_pending branch rows.now ≡ false }
-    ensures within { IfSome result (λ at. at < length rows.now) }
-    ensures has { (d : Row) → IfSome result (λ at. has branch (slice_index_or rows.now at d) ≡ true) }
+fn row_of(rows: &VecDeque<Row>, place: Option<u64>, branch: Branch) -> Option<usize>
+    ensures none { result ≡ None → is_pending branch rows.now.items ≡ false }
+    ensures within { IfSome result (λ at. at < length rows.now.items) }
+    ensures has { (d : Row) → IfSome result (λ at. has branch (slice_index_or rows.now.items at d) ≡ true) }
 {
     match row_at(rows, place, branch) {
         Some(at) => Some(at),
@@ -185,9 +187,9 @@ fn row_of(rows: &[Row], place: Option<u64>, branch: Branch) -> Option<usize>
 }
 
 // The place of the row with this place in the order in which rows began, where it has a branch.
-fn row_at(rows: &[Row], place: Option<u64>, branch: Branch) -> Option<usize>
-    ensures within { IfSome result (λ at. at < length rows.now) }
-    ensures has { (d : Row) → IfSome result (λ at. has branch (slice_index_or rows.now at d) ≡ true) }
+fn row_at(rows: &VecDeque<Row>, place: Option<u64>, branch: Branch) -> Option<usize>
+    ensures within { IfSome result (λ at. at < length rows.now.items) }
+    ensures has { (d : Row) → IfSome result (λ at. has branch (slice_index_or rows.now.items at d) ≡ true) }
 {
     let at = index_of(rows, place?);
     if at < rows.len() && rows[at].has(branch) {
@@ -196,18 +198,18 @@ fn row_at(rows: &[Row], place: Option<u64>, branch: Branch) -> Option<usize>
     None
 }
 
-fn index_of(rows: &[Row], place: u64) -> usize {
+fn index_of(rows: &VecDeque<Row>, place: u64) -> usize {
     rows.partition_point(|row| row.place() < place)
 }
 
-fn search(rows: &[Row], branch: Branch) -> Option<usize>
-    ensures none { result ≡ None → is_pending branch rows.now ≡ false }
-    ensures within { IfSome result (λ at. at < length rows.now) }
-    ensures has { (d : Row) → IfSome result (λ at. has branch (slice_index_or rows.now at d) ≡ true) }
+fn search(rows: &VecDeque<Row>, branch: Branch) -> Option<usize>
+    ensures none { result ≡ None → is_pending branch rows.now.items ≡ false }
+    ensures within { IfSome result (λ at. at < length rows.now.items) }
+    ensures has { (d : Row) → IfSome result (λ at. has branch (slice_index_or rows.now.items at d) ≡ true) }
 {
-    for (i, row) in rows.iter().enumerate() {
-        if row.has(branch) {
-            return Some(i);
+    for at in 0..rows.len() {
+        if rows[at].has(branch) {
+            return Some(at);
         }
     }
     None
@@ -215,7 +217,7 @@ fn search(rows: &[Row], branch: Branch) -> Option<usize>
 
 // Ends a branch in the row that has it: who gets the final, where there is one.
 #[tactic(auto, using(zr_pend_spec::proofs::OneEnd::last_ends, zr_pend_spec::proofs::OneEnd::last_final, zr_pend_spec::proofs::OneEnd::other_ends, zr_pend_spec::proofs::OneEnd::other_final))]
-fn end_at(rows: &mut Vec<Row>, at: usize, branch: Branch) -> Option<Asker>
+fn end_at(rows: &mut VecDeque<Row>, at: usize, branch: Branch) -> Option<Asker>
     requires sound { IsSound rows.old.items }
     requires within { at < length rows.old.items }
     requires has { (d : Row) → has branch (slice_index_or rows.old.items at d) ≡ true }
@@ -223,7 +225,7 @@ fn end_at(rows: &mut Vec<Row>, at: usize, branch: Branch) -> Option<Asker>
     ensures rows { rows.new.items ≡ finished rows.old.items branch }
 {
     if rows[at].is_last(branch) {
-        return rows.remove(at).asker();
+        return rows.remove(at)?.asker();
     }
     rows[at].end(branch);
     None

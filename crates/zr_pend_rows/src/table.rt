@@ -10,6 +10,7 @@ use crate::places::Places;
 use crate::row::{Row, copies_of};
 use crate::rows::{asker_of, drop_link, finish, numbers_in, numbers_of, put};
 use std::alloc::{AllocError, Global};
+use std::collections::VecDeque;
 use std::marker::Model;
 use zr_id::link::LinkNo;
 use zr_pend_numbers::numbers::Numbers;
@@ -19,7 +20,7 @@ use zr_pend_spec::branch::{Asker, Branch};
 /// which numbers each link has asked, and where the row of each branch stands.
 #[derive(Drop)]
 pub struct Table {
-    rows: Vec<Row>,
+    rows: VecDeque<Row>,
     pending: Numbers,
     asked: Numbers,
     places: Places,
@@ -44,7 +45,7 @@ impl Table {
         ensures { result ≡ [] }
     {
         Table {
-            rows: Vec::new(alloc),
+            rows: VecDeque::new(alloc),
             pending: Numbers::new(alloc),
             asked: Numbers::new(alloc),
             places: Places::new(alloc),
@@ -90,7 +91,7 @@ impl Table {
         if !self.has(branch) {
             return None;
         }
-        asker_of(self.rows.as_slice(), &self.places, branch)
+        asker_of(&self.rows, &self.places, branch)
     }
 
     /// Whether one of these links has every number pending.

@@ -1,9 +1,6 @@
-use Rattle.std.proofs.Common.{ap, sym, ◌∙◌}
-use Rattle.zr_pend_numbers.specs.Numbers.{is_in}
 use Rattle.zr_pend_numbers.proofs.Rising.{gap_free, take_none}
 use Rattle.zr_pend_numbers.proofs.used.take.Goals as goal
 
 pub returns-in-Err-clause-others : goal.returns-in-Err-clause-others
 returns-in-Err-clause-others c = λ m.
-    take_none c.args.numbers.now.items c.args.number m
-    (ap (λ ns. is_in c.args.number ns) (sym c.as_slice.ensures.value) ∙ gap_free c.as_slice.result.now c.args.number c.in-Err.field-0 c.in-Err.ensures.below c.in-Err.ensures.above)
+    take_none c.args.numbers.now.items c.args.number m (gap_free c.args.numbers.now.items c.args.number c.in-Err.field-0 c.in-Err.ensures.below c.in-Err.ensures.above)

@@ -1,5 +1,6 @@
-use Rattle.std.proofs.Common.{◌≡◌, ◌++◌, drop}
+use Rattle.std.proofs.Common.{◌≡◌, ◌++◌}
+use Rattle.std.specs.VecDeque.Iter.{deque_iter_rest}
 use Rattle.zr_pend_rows.proofs.row.copies_of.Given as goal
 
 abbrev pub invariant-loop-row : goal.invariant-loop-row
-invariant-loop-row l = l.copies.items ++ drop l.row-index l.rows ≡ l.fn.rows
+invariant-loop-row l = l.copies.items ++ deque_iter_rest l.row-iterator ≡ l.fn.rows.items
