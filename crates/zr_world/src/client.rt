@@ -10,6 +10,7 @@ use std::marker::Model;
 use zr_id::zid::Zid;
 use zr_msg::decl::Kind;
 use zr_msg::msg::Msg;
+use zr_world_numbers::numbers::Numbers;
 
 /// How many queries of a client are open at most.
 const MOST_QUERIES: usize = 4096;
@@ -22,8 +23,8 @@ pub struct Client {
     ables: Vec<u32>,
     tokens: Vec<u32>,
     interests: Vec<u32>,
-    queries: Vec<u32>,
-    requests: Vec<u32>,
+    queries: Numbers,
+    requests: Numbers,
 }
 
 impl Model for Client {
@@ -31,7 +32,7 @@ impl Model for Client {
 
     ghost Value = { ClientState };
 
-    ghost view = { λ c. record { router = c.router; subs = c.subs.items; ables = c.ables.items; tokens = c.tokens.items; interests = c.interests.items; queries = c.queries.items; requests = c.requests.items } };
+    ghost view = { λ c. record { router = c.router; subs = c.subs.items; ables = c.ables.items; tokens = c.tokens.items; interests = c.interests.items; queries = c.queries; requests = c.requests } };
 }
 
 impl Client {
@@ -45,8 +46,8 @@ impl Client {
             ables: Vec::new(alloc),
             tokens: Vec::new(alloc),
             interests: Vec::new(alloc),
-            queries: Vec::new(alloc),
-            requests: Vec::new(alloc),
+            queries: Numbers::new(alloc),
+            requests: Numbers::new(alloc),
         }
     }
 
@@ -121,7 +122,7 @@ impl Client {
     pub fn has_open(&self, number: u32) -> bool
         ensures { result ≡ has_number self.now.queries number }
     {
-        is_among(self.queries.as_slice(), number)
+        self.queries.has(number)
     }
 
     /// Whether as many of its queries are open as may be.
@@ -135,21 +136,21 @@ impl Client {
     pub fn is_asked(&self, number: u32) -> bool
         ensures { result ≡ has_number self.now.requests number }
     {
-        is_among(self.requests.as_slice(), number)
+        self.requests.has(number)
     }
 
     /// It has asked a query under the number.
     pub fn ask(&mut self, number: u32) -> Result<(), AllocError>
         ensures { OnOk result (self.new ≡ asking self.old number) }
     {
-        keep(&mut self.queries, number)
+        self.queries.push(number)
     }
 
     /// It has ended the request of the number.
     pub fn end(&mut self, number: u32)
         ensures { self.new ≡ ending self.old number }
     {
-        forget(&mut self.requests, number);
+        self.requests.take(number);
     }
 
     /// It was sent a message: a request is its own to answer until it ends it, and a final closes its query.
@@ -157,9 +158,9 @@ impl Client {
         ensures { OnOk result (self.new ≡ receiving self.old msg.now) }
     {
         match msg {
-            Msg::Request { id, .. } => keep(&mut self.requests, *id),
+            Msg::Request { id, .. } => self.requests.push(*id),
             Msg::Final { id, .. } => {
-                forget(&mut self.queries, *id);
+                self.queries.take(*id);
                 Ok(())
             }
             _ => Ok(()),
