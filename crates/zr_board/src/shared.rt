@@ -1,13 +1,14 @@
 //! An outlet that a link's writer shares with those that queue something for the link.
 
-ghost use Rattle.std.specs.Prelude.{◌≡◌, []};
+ghost use Rattle.std.specs.Prelude.{◌≡◌, ◌<◌, []};
+ghost use Rattle.zr_link_writer.specs.Turn.{TakesTurn, turns_most, turns_taken};
 ghost use Rattle.zr_ring.specs.Taker.{taken};
 
 use std::alloc::{AllocError, Global};
 use std::sync::{Arc, Mutex, Wait};
 use std::thread::Parker;
 use std::time::Duration;
-use zr_link_writer::{Outlet, Turn};
+use zr_link_writer::{Outlet, Turn, WriterTurns};
 use zr_outside_brief::BriefSink;
 use zr_ring::{Note, Taker};
 
@@ -45,9 +46,12 @@ impl<K: BriefSink + Drop, N: Note + Drop> SharedOutlet<K, N> {
     }
 
     /// Its writer's turn at a moment.
-    pub fn turn<R: Wait>(&self, rt: &R, now: u64) -> Turn {
+    pub fn turn<R: Wait>(&self, rt: &R, now: u64, turns: &mut WriterTurns) -> Turn
+        requires left { turns_taken turns.old < turns_most turns.old }
+        ensures counted { TakesTurn turns.old turns.new result }
+    {
         let mut outlet = self.outlet.lock(rt);
-        let turn = outlet.turn(now);
+        let turn = outlet.turn(now, turns);
         drop(outlet);
         turn
     }

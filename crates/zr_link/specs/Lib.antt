@@ -9,3 +9,4 @@ pub mod Log
 pub mod Denied
 pub mod Logged
 pub mod Complete
+pub mod Turned

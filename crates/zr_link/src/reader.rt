@@ -28,6 +28,7 @@ ghost use Rattle.zr_link.specs.Log.{refusal_of, stage_of};
 ghost use Rattle.zr_link.specs.Logged.{IsLogged, RefusesPeer, TellsDenials};
 ghost use Rattle.zr_link.specs.Failed.{MayHaveFailed};
 ghost use Rattle.zr_link.specs.Gone.{IsGone, is_gone};
+ghost use Rattle.zr_link.specs.Turned.{HasWritten};
 ghost use Rattle.zr_link.specs.Ends.{IsEarly, IsStarted, IsCrewRefused, end_of_up};
 
 use crate::cause::cause;
@@ -37,7 +38,7 @@ use crate::gone::is_gone;
 use crate::intake::Intake;
 use crate::log::LinkLog;
 use crate::opening::{Opened, open};
-use crate::writing::{Writing, write};
+use crate::writing::{Writing, Written, write};
 use std::alloc::Global;
 use std::sync::Arc;
 use std::thread::Threads;
@@ -325,7 +326,9 @@ where
         return Err((end, out.sink));
     }
     let job = Writing::new(alloc, out, link, peer, taker);
-    let run = |job: Writing<K, P, C, L>| write(job);
+    let run = |job: Writing<K, P, C, L>| -> Written<L>
+        ensures { HasWritten (λ l. L.held l) (λ l. L.lost l) job.turns job.log result.turns result.end result.log }
+    { write(job) };
     match crew.start(job, link, run) {
         Ok(()) => Ok(()),
         Err(job) => {

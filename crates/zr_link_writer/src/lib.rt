@@ -8,10 +8,12 @@ mod outlet;
 mod step;
 mod told;
 mod turn;
+mod turns;
 mod writer;
 
 pub use close::close_batch;
 pub use end::WriterEnd;
 pub use outlet::Outlet;
 pub use turn::Turn;
+pub use turns::WriterTurns;
 pub use writer::Writer;

@@ -1,15 +1,16 @@
 //! `Outlet`: where the parcels of a link go, shared by its writer and by those that queue something for it.
 
-ghost use Rattle.std.specs.Prelude.{◌≡◌, ◌++◌, [], None, Some, true};
+ghost use Rattle.std.specs.Prelude.{◌≡◌, ◌<◌, ◌++◌, [], None, Some, true};
 ghost use Rattle.zr_ring.specs.Taker.{taken, IsSameTaker};
 ghost use Rattle.zr_link_writer.specs.Outlet.{Stands, pending};
-ghost use Rattle.zr_link_writer.specs.Turn.{OnIdle, OnEnded};
+ghost use Rattle.zr_link_writer.specs.Turn.{OnIdle, OnEnded, TakesTurn, turns_most, turns_taken};
 
 use crate::end::WriterEnd;
 use crate::joined::Joined;
 use crate::step::{Briefly, Taken, take_briefly, take_one};
 use crate::told::Told;
 use crate::turn::{Flush, Turn};
+use crate::turns::WriterTurns;
 use std::alloc::Global;
 use std::snapshot::Snapshot;
 use zr_outside_brief::BriefSink;
@@ -21,7 +22,7 @@ const MOST_TAKES: u32 = 1_024;
 /// How often a flush asks it at most, since whoever flushes has other work too: as often as the ring of a client has slots.
 const MOST_FLUSHED: u32 = 256;
 
-/// The taking end of a link's ring and its sink, what was taken and waits to be written, a parcel for which there was no room, how it ended if it has, the
+/// The taking end of a link's ring and its sink, what was taken and waits to be written, a parcel that wasn't joined to it, how it ended if it has, the
 /// moment at which it began, the last one that it was told, and what its sink was then.
 #[derive(Drop)]
 pub struct Outlet<K: BriefSink + Drop, N: Note + Drop> {
@@ -60,7 +61,19 @@ impl<K: BriefSink + Drop, N: Note + Drop> Outlet<K, N> {
 
     /// Its writer's turn at a moment: takes and writes what is there, or a KEEP_ALIVE where nothing was written for a while. It waits for a peer that
     /// reads slowly.
-    pub fn turn(&mut self, now: u64) -> Turn
+    pub fn turn(&mut self, now: u64, turns: &mut WriterTurns) -> Turn
+        requires left { turns_taken turns.old < turns_most turns.old }
+        ensures counted { TakesTurn turns.old turns.new result }
+        ensures idle { OnIdle result ((self.new.end ≡ None) × (self.new.joined.bytes.items ++ pending self.new.next ≡ [])) }
+        ensures ended { OnEnded result (λ end. self.new.end ≡ Some end) }
+        ensures same { IsSameTaker self.old.taker self.new.taker × (self.new.start ≡ self.old.start) × (self.new.began ≡ self.old.began) }
+    {
+        let told = self.take_turn(now);
+        turns.count(told);
+        told
+    }
+
+    fn take_turn(&mut self, now: u64) -> Turn
         ensures idle { OnIdle result ((self.new.end ≡ None) × (self.new.joined.bytes.items ++ pending self.new.next ≡ [])) }
         ensures ended { OnEnded result (λ end. self.new.end ≡ Some end) }
         ensures same { IsSameTaker self.old.taker self.new.taker × (self.new.start ≡ self.old.start) × (self.new.began ≡ self.old.began) }

@@ -28,7 +28,7 @@ use zr_glance::Glance;
 use zr_hist::{History, Kept, Pass};
 use zr_id::link::LinkNo;
 use zr_id::zid::Zid;
-use zr_link_writer::Turn;
+use zr_link_writer::{Turn, WriterTurns};
 use zr_msg::msg::Msg;
 use zr_msg::peer::Peer;
 use zr_msg::shared::Shared;
@@ -383,8 +383,8 @@ impl<B: Naming, R: Wait + Drop, K: BriefSink + Drop> Outlets for Router<B, R, K>
         self.board.withdraw(&self.rt, link, turn);
     }
 
-    fn write(&self, outlet: &SharedOutlet<K, Queued>, now: u64) -> Turn {
-        outlet.turn(&self.rt, now)
+    fn write(&self, outlet: &SharedOutlet<K, Queued>, now: u64, turns: &mut WriterTurns) -> Turn {
+        outlet.turn(&self.rt, now, turns)
     }
 
     fn rest_at(&self, outlet: &SharedOutlet<K, Queued>, most: u64) {

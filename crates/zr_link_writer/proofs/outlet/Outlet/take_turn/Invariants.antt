@@ -1,6 +1,6 @@
 use Rattle.std.proofs.Common.{◌≡◌, None}
 use Rattle.zr_ring.specs.Taker.{IsSameTaker}
-use Rattle.zr_link_writer.proofs.outlet.Outlet.turn.Given as goal
+use Rattle.zr_link_writer.proofs.outlet.Outlet.take_turn.Given as goal
 
 abbrev pub invariant-loop : goal.invariant-loop
 invariant-loop g l =
