@@ -150,7 +150,7 @@ where
         crew: inner,
         rules,
     };
-    let run = |hearing: Hearing<S, K, C, L, P, R>| read(hearing);
+    let run = |hearing: Hearing<S, K, C, L, P, R>| heard(hearing);
     match crew.start(hearing, ServeJob::Link { job }, run) {
         Ok(()) => Ok(()),
         Err(hearing) => Err(give_up(hearing)),
@@ -184,26 +184,14 @@ impl<
     L: Log + Drop,
     P: Port + Drop,
     R: Threads + Drop,
-> Job<ServeJob, ()> for Hearing<S, K, C, L, P, R> {
+> Job<ServeJob, Outcome<S, C, L>> for Hearing<S, K, C, L, P, R> {
     ghost told = { λ h. Link (record { start = h.start; policy = P.policy (arc_value h.port) }) };
+
+    // the link was heard, in as many reads as its job has, and its log was told of it
+    ghost leaves = { λ h o. ((o.end ≡ end.NoMemory) ⊎ ((now : ℕ) × (back : Option K) × Runs (begun (expects h.start.side) (opening_of h.start) now) o.end (S.left h.source) (S.left o.source) (IsLate (S.quiets h.source) (S.quiets o.source) now now (C.last o.clock)) (λ answers. Wrote (λ k. K.held k) (λ k. K.faults k) o.end (greets h.start.side (opening_of h.start) ++ answers) h.sink back) (P.refuses_up (arc_value h.port)) (P.refuses_message (arc_value h.port)) (P.refuses_down (arc_value h.port)) (P.answers_down (arc_value h.port)) h.pass o.pass)) × (S.reads o.source ≤ S.reads h.source + h.start.turns) × (o.end ≡ end.Turns → RoseBy h.start.turns (S.reads h.source) (S.reads o.source)) × TellsLink (λ l. L.held l) (λ l. L.lost l) (RefusesPeer (λ peer e. P.refuses_up (arc_value h.port) (seen o.pass) peer e)) h.rules (mine h.pass) (mine o.pass) o.end h.log o.log };
 }
 
-// Runs the reader of a link. How it ended is seen by the peer and the log alone.
-fn read<
-    S: Source + Drop,
-    K: BriefSink + Send + Drop + 'static,
-    C: Clock + Send + Drop + 'static,
-    L: Log + Send + Drop + 'static,
-    P: Outlets<Out = K> + Send + Sync + Drop + 'static,
-    R: Threads + Drop,
->(hearing: Hearing<S, K, C, L, P, R>)
-where
-    P::Note: Send + 'static,
-{
-    drop(heard(hearing));
-}
-
-// Hears the link to its end, in as many reads as its job has; its log is told of it.
+// Hears the link to its end, in as many reads as its job has; its log is told of it. How it ended is seen by the peer and the log alone.
 fn heard<
     S: Source + Drop,
     K: BriefSink + Send + Drop + 'static,
@@ -214,9 +202,7 @@ fn heard<
 >(hearing: Hearing<S, K, C, L, P, R>) -> Outcome<S, C, L>
 where
     P::Note: Send + 'static,
-    ensures heard { (result.end ≡ end.NoMemory) ⊎ ((now : ℕ) × (back : Option K) × Runs (begun (expects hearing.start.side) (opening_of hearing.start) now) result.end (S.left hearing.source) (S.left result.source) (IsLate (S.quiets hearing.source) (S.quiets result.source) now now (C.last result.clock)) (λ answers. Wrote (λ k. K.held k) (λ k. K.faults k) result.end (greets hearing.start.side (opening_of hearing.start) ++ answers) hearing.sink back) (P.refuses_up (arc_value hearing.port)) (P.refuses_message (arc_value hearing.port)) (P.refuses_down (arc_value hearing.port)) (P.answers_down (arc_value hearing.port)) hearing.pass result.pass) }
-    ensures reads { (S.reads result.source ≤ S.reads hearing.source + hearing.start.turns) × (result.end ≡ end.Turns → RoseBy hearing.start.turns (S.reads hearing.source) (S.reads result.source)) }
-    ensures logged { TellsLink (λ l. L.held l) (λ l. L.lost l) (RefusesPeer (λ peer e. P.refuses_up (arc_value hearing.port) (seen result.pass) peer e)) hearing.rules (mine hearing.pass) (mine result.pass) result.end hearing.log result.log }
+    ensures { ⟦<Hearing<S, K, C, L, P, R> as Job<ServeJob, Outcome<S, C, L>>>⟧.leaves hearing result }
 {
     let Hearing {
         alloc,

@@ -1,11 +1,11 @@
 -- The session that the job tells is run.
-use Rattle.std.proofs.Common.{◌≡◌, ◌∙◌, ◌++◌, List, ℕ, sym, subst, inr}
+use Rattle.std.proofs.Common.{◌∙◌, ◌++◌, List, ℕ, sym, subst, inr}
 use Rattle.std.specs.Arc.{arc_value}
-use Rattle.zr_session.specs.Session.{SessionState, begun}
+use Rattle.zr_session.specs.Session.{SessionState}
 use Rattle.zr_link.specs.Heard.{IsLate}
 use Rattle.zr_link.specs.Run.{Runs}
 use Rattle.zr_link.specs.Written.{Wrote}
-use Rattle.zr_link_job.specs.Begins.{expects, greets, opening_of}
+use Rattle.zr_link_job.specs.Begins.{greets, opening_of}
 use Rattle.zr_link_job.proofs.reading.hear.Goals as goal
 
 pub returns-clause-heard : goal.returns-clause-heard
