@@ -7,13 +7,10 @@ use Rattle.std.proofs.lemmas.List.{length-append}
 use Rattle.std.proofs.lemmas.List.Elements.{filter_map-append}
 use Rattle.std.proofs.lemmas.List.Sums.{sum_by-cons, sum_by-append}
 use Rattle.zr_lists.proofs.Tests.{all_both}
-use Rattle.zr_id.specs.Zid.{zid_of_hex}
 use Rattle.zr_bytes.specs.Number.{writes}
 use Rattle.zr_bytes.specs.Text.{writes_text}
 use Rattle.zr_body.specs.Latest.{is_reply}
 use Rattle.zr_body.specs.Payload.{put_body, del_body}
-use Rattle.zr_key.specs.Key.{read_key}
-use Rattle.zr_key.specs.declared.key.KeyError.{KeyError}
 use Rattle.zr_msg.specs.declared.content.Parts.{Parts}
 use Rattle.zr_pend_spec.specs.Held.{reply_weight}
 use Rattle.zr_script_spec.specs.declared.error.ScriptError.{ScriptError}
@@ -24,7 +21,7 @@ use Rattle.zr_script_spec.specs.declared.command.Command.{Command}
 use Rattle.zr_script_spec.specs.declared.command.Command.TheVariants as c
 use Rattle.zr_script_spec.specs.Step.{◌>>=◌}
 use Rattle.zr_script_spec.specs.Lines.{most_line}
-use Rattle.zr_script_spec.specs.Words.{words, is_word, zid_of_word, zid_at, is_number, value_of, number_at, time_at, key_of_word, key_at, payload_at}
+use Rattle.zr_script_spec.specs.Words.{words, is_word, zid_at, is_number, value_of, number_at, time_at, key_at, payload_at}
 use Rattle.zr_script_spec.specs.Command.{plain, asking_body, answer_body, command_of}
 use Rattle.zr_world_spec.specs.World.{WorldState}
 use Rattle.zr_world_spec.specs.Moments.{Numbered, is_step}
@@ -37,7 +34,8 @@ use Rattle.zr_world_spec.proofs.Lines.{numbered, all_steps}
 use Rattle.zr_guarantee.specs.Queries.{saying_in, sayings}
 use Rattle.zr_guarantee.specs.Latest.{saying_weight, reply_bodies}
 use Rattle.zr_law_held.specs.Lines.{LinesFit}
-use Rattle.zr_law_held.proofs.Words.{with_end, words_fit, word_length, zid_length, key_length, small_number, short_number, number_of_time}
+use Rattle.zr_law_carried.proofs.Words.{key_word, with_end, words_fit, zid_word}
+use Rattle.zr_law_held.proofs.Words.{word_length, zid_length, key_length, small_number, short_number, number_of_time}
 
 -- ---- what acts say
 
@@ -113,20 +111,6 @@ module _ (n : ℕ) where
   end_fits client number w line = record { light = omega arith; bodies = refl }
 
 -- ---- a reply
-
-zid_word : (word id : List ℕ) → zid_at word ≡ Ok id → zid_of_hex word ≡ Some id
-zid_word word id e = by (zid_of_hex word) e
-  where
-    by : (o : Option (List ℕ)) → zid_of_word o ≡ Ok id → o ≡ Some id
-    by None k = absurd (cc)
-    by (Some z) k = cc
-
-key_word : (word key : List ℕ) → key_at word ≡ Ok key → read_key word ≡ Ok key
-key_word word key e = by (read_key word) e
-  where
-    by : (r : Result (List ℕ) KeyError) → key_of_word r ≡ Ok key → r ≡ Ok key
-    by (Err f) k = absurd (cc)
-    by (Ok z) k = cc
 
 -- a time is a number of 32 bits
 abbrev IsSmall : Option ℕ → Type 0

@@ -1,49 +1,22 @@
 -- What words have to do with the bytes that they stand in, and numbers with the bytes that spell them.
-use Rattle.std.proofs.Common.{◌≡◌, ◌≤◌, ◌<◌, ◌+◌, ◌/◌, ℕ, zero, suc, ◌*◌, ◌%◌, ◌^◌, Bool, true, false, cond, List, [], ◌∷◌, length, Result, Some, None, Ok, Err, refl, ap, arith}
-use Rattle.std.specs.Prelude.{nat_eq, nat_lt, nat_le, ◌&&◌, ◌==◌}
+use Rattle.std.proofs.Common.{◌≡◌, ◌≤◌, ◌<◌, ◌+◌, ◌/◌, ℕ, zero, suc, ◌*◌, ◌%◌, ◌^◌, Bool, true, false, cond, List, [], ◌∷◌, length, Some, Ok, refl, ap, arith}
+use Rattle.std.specs.Prelude.{nat_eq, nat_lt, nat_le, not, ◌&&◌, ◌==◌}
 use Rattle.std.specs.Cmp.Lexicographic.{pointwise}
-use Rattle.std.specs.List.{slice_split, onto_first, list_all, sum_by}
+use Rattle.std.specs.List.{list_all, sum_by}
 use Rattle.std.proofs.lemmas.Bool.{false≢true, and_parts, ltb-true, ltb-false, leb-true}
 use Rattle.std.proofs.lemmas.List.Splits.{length-slice_split}
 use Rattle.std.proofs.lemmas.List.Sums.{sum_by-cons, sum_by-append}
-use Rattle.hex.specs.Hex.{decode_of}
-use Rattle.hex.specs.declared.error.FromHexError.{FromHexError}
-use Rattle.hex.proofs.HexLemmas.{decode_of-ok}
-use Rattle.zr_id.specs.Zid.{is_zid, is_lower_hex, valid_zid, zid_of_hex}
+use Rattle.zr_id.specs.Zid.{zid_of_hex}
 use Rattle.zr_key.specs.Key.{read_key}
 use Rattle.zr_key.proofs.Reading.{Sound-from_read}
 use Rattle.zr_key.proofs.Text.{LeadsTo-length}
 use Rattle.zr_key.specs.Key.{expression_of, canonical}
 use Rattle.zr_bytes.specs.Number.{writes_within, writes}
 use Rattle.zr_script_spec.specs.Lines.{parts, all_but_last, last_part, ended_lines, open_line, unless_empty}
-use Rattle.zr_script_spec.specs.Words.{words}
-use Rattle.zr_lists.proofs.Sums.{filter_sum}
+use Rattle.zr_law_carried.proofs.Words.{split_sum, with_end, zid_named}
 use Rattle.zr_law_held.specs.Lines.{LinesAreWithin}
 
 -- ---- parts
-
--- a part with the byte that ends it
-abbrev pub with_end : List ℕ → ℕ
-with_end part = length part + 1
-
-onto_sum : (b : ℕ) (ps : List (List ℕ)) → 1 ≤ length ps → sum_by with_end (onto_first b ps) ≡ sum_by with_end ps + 1
-onto_sum b [] h = absurd (omega arith)
-onto_sum b (p ∷ ps) h = omega (arith, sum_by-cons with_end (b ∷ p) ps, sum_by-cons with_end p ps)
-
-split_sum : (test : ℕ → Bool) (bytes : List ℕ) → sum_by with_end (slice_split test bytes) ≡ length bytes + 1
-split_sum test [] = refl
-split_sum test (b ∷ bytes) = by (test b) (split_sum test bytes)
-  where
-    some : 1 ≤ length (slice_split test bytes)
-    some = omega (arith, length-slice_split test bytes)
-
-    by : (t : Bool) → sum_by with_end (slice_split test bytes) ≡ length bytes + 1 → sum_by with_end (cond t ([] ∷ slice_split test bytes) (onto_first b (slice_split test bytes))) ≡ length (b ∷ bytes) + 1
-    by true ih = omega (arith, sum_by-cons with_end [] (slice_split test bytes), ih)
-    by false ih = omega (arith, onto_sum b (slice_split test bytes) some, ih)
-
--- the words of a line, each with what parts it from the next one
-pub words_fit : (line : List ℕ) → sum_by with_end (words line) ≤ length line + 1
-words_fit line = omega (arith, filter_sum with_end (λ word. nat_lt 0 (length word)) (slice_split (λ b. b == 32) line), split_sum (λ b. b == 32) line)
 
 ends_apart : (ps : List (List ℕ)) → sum_by with_end ps ≡ sum_by length ps + length ps
 ends_apart [] = refl
@@ -79,23 +52,13 @@ word_length (x ∷ a) (y ∷ b) e = omega (arith, word_length a b (and_parts (na
 
 -- a word that names someone is twice as long as the identifier, which has at most sixteen bytes
 pub zid_length : (word id : List ℕ) → zid_of_hex word ≡ Some id → (length word ≡ 2 * length id) × (1 ≤ length id) × (length id ≤ 16)
-zid_length word id e = by (nat_le (length word) 32 && list_all is_lower_hex word) e
-  where
-    valid : (t : Bool) (bytes : List ℕ) → is_zid bytes ≡ t → decode_of word ≡ Ok bytes → cond t (Some bytes) None ≡ Some id → (length word ≡ 2 * length id) × (1 ≤ length id) × (length id ≤ 16)
-    valid true bytes z d k =
-        let same : bytes ≡ id = cc in
-        let some = ltb-true 0 (length bytes) (and_parts _ _ (and_parts _ _ z).0).0 in
-        let short = leb-true (length bytes) 16 (and_parts _ _ (and_parts _ _ z).0).1 in
-        (omega (arith, (decode_of-ok word bytes d).2, ap length same), omega (arith, some, ap length same), omega (arith, short, ap length same))
-    valid false bytes z d k = absurd (cc)
-
-    read : (r : Result (List ℕ) FromHexError) → decode_of word ≡ r → valid_zid r ≡ Some id → (length word ≡ 2 * length id) × (1 ≤ length id) × (length id ≤ 16)
-    read (Ok bytes) d k = valid (is_zid bytes) bytes refl d k
-    read (Err f) d k = absurd (cc)
-
-    by : (t : Bool) → cond t (valid_zid (decode_of word)) None ≡ Some id → (length word ≡ 2 * length id) × (1 ≤ length id) × (length id ≤ 16)
-    by true k = read (decode_of word) refl k
-    by false k = absurd (cc)
+zid_length word id e =
+    let named = zid_named word id e in
+    let parts = and_parts (nat_lt 0 (length id) && nat_le (length id) 16) (not (list_all (λ b. b == 0) id)) named.1 in
+    let both = and_parts (nat_lt 0 (length id)) (nat_le (length id) 16) parts.0 in
+    let some = ltb-true 0 (length id) both.0 in
+    let short = leb-true (length id) 16 both.1 in
+    (named.0, omega (arith, some), omega (arith, short))
 
 -- the canonical form of a key is no longer than what spells it
 pub key_length : (word key : List ℕ) → read_key word ≡ Ok key → length key ≤ length word

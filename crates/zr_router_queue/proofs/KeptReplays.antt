@@ -7,7 +7,7 @@ use Rattle.zr_told_spec.specs.Hub.{hub_refuses}
 use Rattle.zr_router_queue.specs.History.{is_legal, is_legal_from, may_come, may_follow}
 use Rattle.zr_router_queue.specs.Tables.{Tables, advanced, new_tables, replay, replay_from}
 use Rattle.zr_router_queue.proofs.InStep.{and_both}
-use Rattle.zr_router_queue.proofs.Kept.{IsKept, kept_after, kept_new, neither}
+use Rattle.zr_law_sent.proofs.Kept.{IsKept, kept_after, kept_new, neither}
 
 pub none_is : {X : Type 0} (o : Option X) → is_none o ≡ true → o ≡ None
 none_is None is = refl

@@ -1,11 +1,8 @@
 pub mod Batches
 pub mod Chosen
 pub mod Entering
-pub mod Holding
 pub mod InStep
-pub mod Kept
 pub mod KeptReplays
-pub mod Logs
 pub mod Lookups
 pub mod Named
 pub mod Plans
@@ -17,4 +14,3 @@ pub mod Same
 pub mod Settling
 pub mod Spelled
 pub mod Stepped
-pub mod Weights

@@ -12,7 +12,7 @@ use Rattle.zr_msg.specs.declared.msg.Msg.TheVariants.{Sub, Unsub, Token, Untoken
 use Rattle.zr_log_set.specs.Decls.{decl_weight, most_weight}
 use Rattle.zr_local.specs.Clients.{clients_left, clients_weight, noted, weight_but}
 use Rattle.zr_local.specs.Interests.{interest_weight}
-use Rattle.zr_local.specs.Rows.{Key, id_kind, row_key, undeclared, weight_of}
+use Rattle.zr_local.specs.Rows.{Key, row_key, undeclared, weight_of}
 use Rattle.zr_local.specs.State.{held_weight, refuses_declare, refuses_interest}
 use Rattle.zr_local.specs.declared.error.LocalError.TheVariants.{TextLimit}
 use Rattle.zr_local.specs.declared.interest.ClientInterests.{ClientInterests}
@@ -26,8 +26,8 @@ use Rattle.zr_node_spec.specs.Tables.{leads_to_client, leads_to_router}
 use Rattle.zr_node_spec.specs.State.{NodeState, local_state, new_node}
 use Rattle.zr_node_spec.specs.Table.{able_kind, after, after_down, after_from, clients_noted, key_of, known_error, live, local_error, refuses, refuses_declared, refuses_from, refuses_noted, refuses_rows, row, rows_declared, rows_left, rows_undeclared, with_clients, with_known, with_rows}
 use Rattle.zr_local.specs.Rows as local
-use Rattle.zr_router_queue.proofs.Logs.{AreKept, kept_none, kept_rows, kept_snap, kept_step}
-use Rattle.zr_router_queue.proofs.Weights.{clients_left_light, declared_light, forgotten_light, left_light, undeclared_light, within_limit}
+use Rattle.zr_law_sent.proofs.Logs.{AreKept, kept_none, kept_rows, kept_snap, kept_step}
+use Rattle.zr_law_sent.proofs.Weights.{clients_left_light, declared_light, forgotten_light, left_light, undeclared_light, within_limit}
 
 pub record IsKept (node : NodeState) : Type 0 where
   pub logs : AreKept node.known node.rows

@@ -26,7 +26,8 @@ use Rattle.zr_log.proofs.Logs.{in_order_none, in_order_put, source_of}
 use Rattle.zr_node_spec.specs.Changes.{after_changes, changes}
 use Rattle.zr_node_spec.proofs.Changes.{decls_with, me_changes, decls_fold, rows_lead}
 use Rattle.zr_lists.proofs.Each.{All-each}
-use Rattle.zr_router_queue.proofs.Weights.{changed_light, within_limit}
+use Rattle.zr_law_sent.specs.Sent.{IsLight}
+use Rattle.zr_law_sent.proofs.Weights.{changed_light, within_limit}
 
 -- the declarations of a log are a set, and that of another router's isn't too heavy
 abbrev pub IsTaken : List ℕ → Log → Type 0
@@ -118,9 +119,6 @@ kept_rows k before after h =
     }
 
 -- ---- all are light
-
-abbrev pub IsLight : Log → Type 0
-IsLight l = (0 < l.position) × IsSet l.decls × (weight l.decls ≤ most_weight)
 
 -- each is found under its router
 further : (l : Log) (found logs : List Log) → AllByRecursion (λ m. slice_cmp nat_cmp l.source m.source ≡ Less) logs →

@@ -1,0 +1,50 @@
+-- What waits in a world may be carried: on each wire what its sender may pass on, and in each queue towards a router what a router may. What a router
+-- sends to a client is not carried.
+use Rattle.std.specs.Prelude.{◌≡◌, ℕ, true, false, if◌then◌else◌, List, Some, is_some, IfOk, IfSome}
+use Rattle.std.specs.List.{AllByRecursion}
+use Rattle.zr_msg.specs.declared.msg.Msg.{Msg}
+use Rattle.zr_msg.specs.declared.msg.Msg.TheVariants.{Response}
+use Rattle.zr_msg.specs.declared.peer.Role.{Role}
+use Rattle.zr_msg.specs.declared.peer.Role.TheVariants.{Client, Router}
+use Rattle.zr_script_spec.specs.declared.command.Act.{Act}
+use Rattle.zr_world_spec.specs.Acts.{outcome}
+use Rattle.zr_world_spec.specs.Sound.{IsSound}
+use Rattle.zr_world_spec.specs.World.{RouterState, EndState, End, Routers, WorldState, router_of, client_of, end_of}
+use Rattle.zr_law_sent.specs.Passing.{IsPassable, MayPass}
+use Rattle.zr_law_sent.specs.Sent.{Holds}
+use Rattle.zr_law_sent.proofs.Kept.{IsKept}
+use Rattle.zr_law_numbers.specs.Calls.{Call, led}
+use Rattle.zr_law_calls.specs.Fitting.{IsFit, IsFitCall}
+
+-- who has a name: a router, or else a client
+abbrev pub role_of : Routers → List ℕ → Role
+role_of routers name = if is_some (router_of routers name) then Router else Client
+
+-- what a router sends to a peer of a role may be passed on by a router, where it is carried
+abbrev pub SentTo : Role → Msg → Type 0
+SentTo Client m = Unit {0}
+SentTo Router m = MayPass Router m
+
+-- an end where the neighbour is of a role
+pub record IsCarried (role : Role) (s : EndState) : Type 0 where
+  pub wire : AllByRecursion (λ t. MayPass role t.msg) s.wire
+  pub queue : AllByRecursion (λ t. SentTo role t.msg) s.queue
+
+-- what a router knows weighs no more than it may, and what it holds came as a reply that may be passed on
+pub record IsCarrier (r : RouterState) : Type 0 where
+  pub kept : IsKept r.node
+  pub held : Holds (λ c. IsPassable (Response 0 c)) r.node.held
+
+-- no name is that of a router and of a client
+pub record IsCarriable (w : WorldState) : Type 0 where
+  pub ends : (e : End) → IfSome (end_of w.ends e) (λ s. IsCarried (role_of w.routers e.1) s)
+  pub routers : (x : List ℕ) → IfSome (router_of w.routers x) IsCarrier
+  pub apart : (name : List ℕ) → is_some (client_of w.clients name) ≡ true → is_some (router_of w.routers name) ≡ false
+
+-- in each world to which calls of fit acts lead
+abbrev pub LedIsCarriable : Type 0
+LedIsCarriable = (calls : List Call) (w : WorldState) → AllByRecursion IsFitCall calls → led calls ≡ Some w → IsCarriable w
+
+-- and an act that is fit leaves a sound world such as it was
+abbrev pub ActsKeepCarriable : Type 0
+ActsKeepCarriable = (w : WorldState) (line : ℕ) (act : Act) → IsFit act → IsSound w × IsCarriable w → IfOk (outcome w line act) (λ x. IsSound x.1 × IsCarriable x.1)

@@ -1,0 +1,2 @@
+pub mod Carriable
+pub mod Lines
