@@ -22,7 +22,9 @@ use Rattle.zr_world_spec.proofs.Sound.{act_keeps, book_keeps, applied_keeps, emp
 use Rattle.zr_law_settled.specs.Events.{EventsAreTaken}
 use Rattle.zr_law_numbers.specs.Calls.{Call, Apply, Book, Fan, left_by, counted_by, call_made, led, is_apply, applied_in, most_commands}
 use Rattle.zr_law_numbers.proofs.EveryWorld.{worlds_go}
-use Rattle.zr_law_calls.specs.Reached.{IsReached}
+use Rattle.zr_lists.proofs.Each.{All-append}
+use Rattle.zr_law_calls.specs.Fitting.{IsFit}
+use Rattle.zr_law_calls.specs.Reached.{IsFitCall, IsReached}
 
 -- ---- one call more
 
@@ -36,15 +38,16 @@ applied_more calls call = fold-append (λ (n : ℕ) call. n + cond (is_apply cal
 
 pub reached_first : IsReached empty_world 0
 unfolding IsReached
-reached_first = ([], refl, refl, omega arith)
+reached_first = ([], refl, refl, omega arith, tt)
 
-pub reached_applied : (w : WorldState) (n line : ℕ) (act : Act) (x : List ReportLine × WorldState) → IsReached w n → n < most_commands → outcome w line act ≡ Ok x → IsReached x.1 (n + 1)
+pub reached_applied : (w : WorldState) (n line : ℕ) (act : Act) (x : List ReportLine × WorldState) → IsReached w n → IsFit act → n < most_commands → outcome w line act ≡ Ok x → IsReached x.1 (n + 1)
 unfolding IsReached
-reached_applied w n line act x h room e = (
+reached_applied w n line act x h fit room e = (
   h.0 ++ Apply line act ∷ [],
   led_more h.0 (Apply line act) w x.1 h.1 (ap left_by e),
   applied_more h.0 (Apply line act) ∙ ap (λ z. z + 1) h.2,
   omega (arith, room),
+  All-append IsFitCall h.0 (Apply line act ∷ []) h.4 (fit, tt),
 )
 
 pub reached_booked : (w v : WorldState) (n steps : ℕ) → IsReached w n → book_step w steps ≡ Ok v → IsReached v n
@@ -52,14 +55,14 @@ unfolding IsReached
 reached_booked w v n steps h e =
     let same : applied_in (h.0 ++ Book steps ∷ []) ≡ applied_in h.0 + 0 = applied_more h.0 (Book steps) in
     let count : applied_in (h.0 ++ Book steps ∷ []) ≡ n = omega (arith, same, h.2) in
-    (h.0 ++ Book steps ∷ [], led_more h.0 (Book steps) w v h.1 (ap counted_by e), count, h.3)
+    (h.0 ++ Book steps ∷ [], led_more h.0 (Book steps) w v h.1 (ap counted_by e), count, h.3, All-append IsFitCall h.0 (Book steps ∷ []) h.4 (tt, tt))
 
 pub reached_fanned : (w : WorldState) (n line : ℕ) (x : List ReportLine × WorldState) → IsReached w n → fan_step w line ≡ Ok x → IsReached x.1 n
 unfolding IsReached
 reached_fanned w n line x h e =
     let same : applied_in (h.0 ++ Fan line ∷ []) ≡ applied_in h.0 + 0 = applied_more h.0 (Fan line) in
     let count : applied_in (h.0 ++ Fan line ∷ []) ≡ n = omega (arith, same, h.2) in
-    (h.0 ++ Fan line ∷ [], led_more h.0 (Fan line) w x.1 h.1 (ap left_by e), count, h.3)
+    (h.0 ++ Fan line ∷ [], led_more h.0 (Fan line) w x.1 h.1 (ap left_by e), count, h.3, All-append IsFitCall h.0 (Fan line ∷ []) h.4 (tt, tt))
 
 -- ---- what holds of these worlds
 

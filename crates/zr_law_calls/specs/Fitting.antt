@@ -8,7 +8,6 @@ use Rattle.zr_script_spec.specs.declared.command.Act.{Act}
 use Rattle.zr_script_spec.specs.declared.command.Act.TheVariants as a
 use Rattle.zr_script_spec.specs.Mode.{is_current, is_future}
 use Rattle.zr_law_sent.specs.Passing.{MayPass}
-use Rattle.zr_law_numbers.specs.Calls.{Call, Apply, Book, Fan}
 
 -- the message that a client sends by an act
 abbrev pub sent_by : Act → Option Msg
@@ -37,9 +36,3 @@ sent_by (a.Show router) = None
 
 abbrev pub IsFit : Act → Type 0
 IsFit act = IfSome (sent_by act) (λ msg. MayPass Client msg)
-
--- the act of a call is fit, if it has one
-abbrev pub IsFitCall : Call → Type 0
-IsFitCall (Apply line act) = IsFit act
-IsFitCall (Book steps) = Unit {0}
-IsFitCall (Fan line) = Unit {0}

@@ -1,20 +1,16 @@
 -- What waits in a world may be carried: on each wire what its sender may pass on, and in each queue towards a router what a router may. What a router
 -- sends to a client is not carried.
-use Rattle.std.specs.Prelude.{◌≡◌, ℕ, true, false, if◌then◌else◌, List, Some, is_some, IfOk, IfSome}
+use Rattle.std.specs.Prelude.{◌≡◌, ℕ, true, false, if◌then◌else◌, List, is_some, IfSome}
 use Rattle.std.specs.List.{AllByRecursion}
 use Rattle.zr_msg.specs.declared.msg.Msg.{Msg}
 use Rattle.zr_msg.specs.declared.msg.Msg.TheVariants.{Response}
 use Rattle.zr_msg.specs.declared.peer.Role.{Role}
 use Rattle.zr_msg.specs.declared.peer.Role.TheVariants.{Client, Router}
-use Rattle.zr_script_spec.specs.declared.command.Act.{Act}
-use Rattle.zr_world_spec.specs.Acts.{outcome}
-use Rattle.zr_world_spec.specs.Sound.{IsSound}
 use Rattle.zr_world_spec.specs.World.{RouterState, EndState, End, Routers, WorldState, router_of, client_of, end_of}
 use Rattle.zr_law_sent.specs.Passing.{IsPassable, MayPass}
 use Rattle.zr_law_sent.specs.Sent.{Holds}
 use Rattle.zr_law_sent.proofs.Kept.{IsKept}
-use Rattle.zr_law_numbers.specs.Calls.{Call, led}
-use Rattle.zr_law_calls.specs.Fitting.{IsFit, IsFitCall}
+use Rattle.zr_law_calls.specs.Reached.{IsReached}
 
 -- who has a name: a router, or else a client
 abbrev pub role_of : Routers → List ℕ → Role
@@ -41,10 +37,6 @@ pub record IsCarriable (w : WorldState) : Type 0 where
   pub routers : (x : List ℕ) → IfSome (router_of w.routers x) IsCarrier
   pub apart : (name : List ℕ) → is_some (client_of w.clients name) ≡ true → is_some (router_of w.routers name) ≡ false
 
--- in each world to which calls of fit acts lead
-abbrev pub LedIsCarriable : Type 0
-LedIsCarriable = (calls : List Call) (w : WorldState) → AllByRecursion IsFitCall calls → led calls ≡ Some w → IsCarriable w
-
--- and an act that is fit leaves a sound world such as it was
-abbrev pub ActsKeepCarriable : Type 0
-ActsKeepCarriable = (w : WorldState) (line : ℕ) (act : Act) → IsFit act → IsSound w × IsCarriable w → IfOk (outcome w line act) (λ x. IsSound x.1 × IsCarriable x.1)
+-- in each world to which calls lead
+abbrev pub ReachedIsCarriable : Type 0
+ReachedIsCarriable = (w : WorldState) (applied : ℕ) → IsReached w applied → IsCarriable w
