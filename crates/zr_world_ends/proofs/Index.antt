@@ -9,10 +9,10 @@ use Rattle.std.proofs.lemmas.Bool.{eqb-true, eqb-false, ltb-true, ltb-false, lt-
 use Rattle.std.proofs.lemmas.List.{get_or-set_same, get_or-set_other, length-set, take_at}
 use Rattle.std.proofs.lemmas.Option.{slice_get-get_or, slice_get_past}
 use Rattle.zr_lists.proofs.Options.{read_cond}
-use Rattle.zr_world_spec.specs.World.{EndState, End, Ends, end_cmp}
-use Rattle.zr_world_spec.specs.Next.{can_handle, can_take}
+use Rattle.zr_world_spec.specs.World.{End, end_cmp}
 use Rattle.zr_world_ends.proofs.Bits.{unmarked}
 use Rattle.zr_world_ends.specs.Index.{has_mark, passes_at, HasJust, IsIndexed}
+use Rattle.zr_world_ends.specs.Kept.{KeptEnd, KeptEnds, can_handle, can_take}
 
 -- ---- a list of which one element was replaced
 
@@ -43,32 +43,32 @@ module _ {X : Type 0} (xs : List X) (i : ℕ) (x : X) where
       by false e = get_other q (eqb-false q i e)
 
 -- no end passes behind the last place
-passes_past : (test : EndState → Bool) (es : Ends) (q : ℕ) → length es ≤ q → passes_at test es q ≡ false
-passes_past test es q le = ap (λ (o : Option (End × EndState)). option_map_or (λ e. test e.1) o false) (slice_get_past es q le)
+passes_past : (test : KeptEnd → Bool) (es : KeptEnds) (q : ℕ) → length es ≤ q → passes_at test es q ≡ false
+passes_past test es q le = ap (λ (o : Option (End × KeptEnd)). option_map_or (λ e. test e.1) o false) (slice_get_past es q le)
 
 -- ---- the end at a place changes
 
-module _ (test : EndState → Bool) (es : Ends) (i : ℕ) (k : End) (s : EndState) (lt : i < length es) where
+module _ (test : KeptEnd → Bool) (es : KeptEnds) (i : ℕ) (k : End) (s : KeptEnd) (lt : i < length es) where
   passes_set : (q : ℕ) → passes_at test (set es i (k, s)) q ≡ cond (q == i) (test s) (passes_at test es q)
   passes_set q =
-      ap (λ (o : Option (End × EndState)). option_map_or (λ e. test e.1) o false) (get_set es i (k, s) lt q)
-      ∙ read_cond (λ (o : Option (End × EndState)). option_map_or (λ e. test e.1) o false) (q == i) (Some (k, s)) (slice_get es q)
+      ap (λ (o : Option (End × KeptEnd)). option_map_or (λ e. test e.1) o false) (get_set es i (k, s) lt q)
+      ∙ read_cond (λ (o : Option (End × KeptEnd)). option_map_or (λ e. test e.1) o false) (q == i) (Some (k, s)) (slice_get es q)
 
   -- the place is marked where the new state passes the test
   just_changed : (words words' : List ℕ) → ((q : ℕ) → has_mark words' q ≡ cond (q == i) (test s) (has_mark words q)) → HasJust test words es → HasJust test words' (set es i (k, s))
   just_changed words words' now just q = now q ∙ ap (λ z. cond (q == i) (test s) z) (just q) ∙ sym (passes_set q)
 
   -- the test can't tell the states apart
-  just_kept : (words : List ℕ) (d : End × EndState) → test s ≡ test (get_or es i d).1 → HasJust test words es → HasJust test words (set es i (k, s))
+  just_kept : (words : List ℕ) (d : End × KeptEnd) → test s ≡ test (get_or es i d).1 → HasJust test words es → HasJust test words (set es i (k, s))
   just_kept words d same just q = just q ∙ by (q == i) refl ∙ sym (passes_set q)
     where
       by : (b : Bool) → (q == i) ≡ b → passes_at test es q ≡ cond b (test s) (passes_at test es q)
-      by true e = ap (passes_at test es) (eqb-true q i e) ∙ ap (λ (o : Option (End × EndState)). option_map_or (λ x. test x.1) o false) (slice_get-get_or es i d lt) ∙ sym same
+      by true e = ap (passes_at test es) (eqb-true q i e) ∙ ap (λ (o : Option (End × KeptEnd)). option_map_or (λ x. test x.1) o false) (slice_get-get_or es i d lt) ∙ sym same
       by false e = refl
 
-module _ (es : Ends) (h h' t : List ℕ) (i : ℕ) (d : End × EndState) (s : EndState) (lt : i < length es) where
+module _ (es : KeptEnds) (h h' t : List ℕ) (i : ℕ) (d : End × KeptEnd) (s : KeptEnd) (lt : i < length es) where
   still_ordered : IsStrictlySortedBy end_cmp (keys_of es) → IsStrictlySortedBy end_cmp (keys_of (set es i ((get_or es i d).0, s)))
-  still_ordered o = subst (IsStrictlySortedBy end_cmp) (sym (map-set_same (λ (x : End × EndState). x.0) es i ((get_or es i d).0, s) d refl)) o
+  still_ordered o = subst (IsStrictlySortedBy end_cmp) (sym (map-set_same (λ (x : End × KeptEnd). x.0) es i ((get_or es i d).0, s) d refl)) o
 
   room_kept : (words words' : List ℕ) → length words' ≡ length words → length es ≤ 64 * length words → length (set es i ((get_or es i d).0, s)) ≤ 64 * length words'
   room_kept words words' same room = rw (length-set es i ((get_or es i d).0, s), same) room
@@ -111,9 +111,9 @@ pub indexed_none : IsIndexed [] [] []
 unfolding IsStrictlySortedBy
 indexed_none = record { ordered = tt; handles = λ q. unmarked [] q refl; takes = λ q. unmarked [] q refl; handle_room = omega arith; take_room = omega arith }
 
-module _ (test : EndState → Bool) (es : Ends) where
+module _ (test : KeptEnd → Bool) (es : KeptEnds) where
   -- one place more is marked anew
-  pub marked_more : (n : ℕ) (d : End × EndState) (first words words' : List ℕ) → n < length es →
+  pub marked_more : (n : ℕ) (d : End × KeptEnd) (first words words' : List ℕ) → n < length es →
       ((q : ℕ) → has_mark words q ≡ cond (nat_lt q n) (passes_at test es q) (has_mark first q)) → ((q : ℕ) → has_mark words' q ≡ cond (q == n) (test (get_or es n d).1) (has_mark words q)) →
       (q : ℕ) → has_mark words' q ≡ cond (nat_lt q (n + 1)) (passes_at test es q) (has_mark first q)
   marked_more n d first words words' lt before now q = now q ∙ by (q == n) refl
@@ -123,7 +123,7 @@ module _ (test : EndState → Bool) (es : Ends) where
           let same : q ≡ n = eqb-true q n e in
           let inside : nat_lt q (n + 1) ≡ true = lt-ltb q (n + 1) (omega (arith, same)) in
           rw inside
-          (sym (ap (passes_at test es) same ∙ ap (λ (o : Option (End × EndState)). option_map_or (λ x. test x.1) o false) (slice_get-get_or es n d lt)))
+          (sym (ap (passes_at test es) same ∙ ap (λ (o : Option (End × KeptEnd)). option_map_or (λ x. test x.1) o false) (slice_get-get_or es n d lt)))
       by false e =
           let apart : q ≢ n = eqb-false q n e in
           before q ∙ ap (λ c. cond c (passes_at test es q) (has_mark first q)) (below (nat_lt q n) refl apart)
@@ -142,7 +142,7 @@ module _ (test : EndState → Bool) (es : Ends) where
       by false e = let behind : n ≤ q = ltb-false q n e in let past : length es ≤ q = omega (arith, behind, le) in none q past ∙ sym (passes_past test es q past)
 
   -- so it is where there was room made for one place more
-  pub none_behind : (fewer : Ends) (first words : List ℕ) → length fewer ≤ length es → HasJust test first fewer → ((q : ℕ) → has_mark words q ≡ has_mark first q) →
+  pub none_behind : (fewer : KeptEnds) (first words : List ℕ) → length fewer ≤ length es → HasJust test first fewer → ((q : ℕ) → has_mark words q ≡ has_mark first q) →
       (q : ℕ) → length es ≤ q → has_mark words q ≡ false
   none_behind fewer first words le just same q past =
       let past' : length fewer ≤ q = omega (arith, past, le) in
@@ -150,14 +150,14 @@ module _ (test : EndState → Bool) (es : Ends) where
 
 -- ---- what was lent is back, as long as it was
 
-pub lent_handles : (es lent new : Ends) (h lent' new' t : List ℕ) (n m : ℕ) → lent ≡ es → lent' ≡ h → length new ≡ n → length new' ≡ m →
+pub lent_handles : (es lent new : KeptEnds) (h lent' new' t : List ℕ) (n m : ℕ) → lent ≡ es → lent' ≡ h → length new ≡ n → length new' ≡ m →
     (IsIndexed lent lent' t → IsIndexed new new' t) → IsIndexed es h t → IsIndexed (take n (new ++ drop (length new) es)) (take m (new' ++ drop (length new') h)) t
 lent_handles es lent new h lent' new' t n m e e' l l' keeps x =
     let ends : take n (new ++ drop (length new) es) ≡ new = take_at new (drop (length new) es) n l in
     let marks : take m (new' ++ drop (length new') h) ≡ new' = take_at new' (drop (length new') h) m l' in
     rw (ends, marks) (keeps (rw (e, e') x))
 
-pub lent_takes : (es lent new : Ends) (h t lent' new' : List ℕ) (n m : ℕ) → lent ≡ es → lent' ≡ t → length new ≡ n → length new' ≡ m →
+pub lent_takes : (es lent new : KeptEnds) (h t lent' new' : List ℕ) (n m : ℕ) → lent ≡ es → lent' ≡ t → length new ≡ n → length new' ≡ m →
     (IsIndexed lent h lent' → IsIndexed new h new') → IsIndexed es h t → IsIndexed (take n (new ++ drop (length new) es)) h (take m (new' ++ drop (length new') t))
 lent_takes es lent new h t lent' new' n m e e' l l' keeps x =
     let ends : take n (new ++ drop (length new) es) ≡ new = take_at new (drop (length new) es) n l in

@@ -1,17 +1,15 @@
-//! One end of a link, that of a router: what it has queued for the neighbour, and what the wire from the neighbour has for it.
+//! One end of a link, that of a router: what it has queued for the neighbour, and of what kinds the messages are that the wire from the neighbour has for it.
 
 ghost use Rattle.std.specs.Prelude.{◌≡◌, ◌∷◌, ◌+◌, ◌-◌, ◌^◌, [], not, min, length, IfNone, IfSome, OnOk, OnErr};
 ghost use Rattle.std.specs.List.{list_all, sum_by};
-ghost use Rattle.zr_law_fan.specs.Samples.{bare};
-ghost use Rattle.zr_world_spec.specs.World.{new_end, sent, queued, with_wire, with_queue, broken, lifted, lowered, is_empty, is_idle, unsettles, is_calm, is_calm_end};
-ghost use Rattle.zr_world_spec.specs.Fan.{is_sample, sample_bytes, waiting_at};
-ghost use Rattle.zr_world_spec.specs.Next.{can_handle, can_take};
-ghost use Rattle.zr_world_ends.specs.Steps.{returned};
+ghost use Rattle.zr_world_spec.specs.World.{is_empty, is_calm};
+ghost use Rattle.zr_world_spec.specs.Fan.{is_sample, sample_bytes};
+ghost use Rattle.zr_world_ends.specs.Kept.{announced, bare, broken, can_handle, can_take, has_samples, is_calm_end, is_idle, lifted, lost, lowered, new_end, no_kinds, passed, queued, waiting_bytes, waiting_count, with_queue};
 
+use crate::kind::{WireKind, bytes_of, is_sample, unsettles};
 use std::alloc::{AllocError, Global};
 use std::collections::VecDeque;
 use std::marker::Model;
-use zr_msg::content::Content;
 use zr_msg::msg::Msg;
 use zr_msg::peer::Weight;
 
@@ -30,22 +28,22 @@ impl Model for Tagged {
     ghost view = { λ x. record { msg = x.msg; tag = x.tag } };
 }
 
-/// A router's end of a link.
+/// A router's end of a link. A carrier has the messages on its wire.
 #[derive(Drop)]
 pub struct WorldEnd {
     up: bool,
     unbroken: bool,
     queue: VecDeque<Tagged>,
-    wire: VecDeque<Tagged>,
+    kinds: VecDeque<WireKind>,
     weight: Weight,
 }
 
 impl Model for WorldEnd {
-    ghost use Rattle.zr_world_spec.specs.World.{EndState};
+    ghost use Rattle.zr_world_ends.specs.Kept.{KeptEnd};
 
-    ghost Value = { EndState };
+    ghost Value = { KeptEnd };
 
-    ghost view = { λ e. record { up = e.up; unbroken = e.unbroken; queue = e.queue.items; wire = e.wire.items; weight = e.weight } };
+    ghost view = { λ e. record { up = e.up; unbroken = e.unbroken; queue = e.queue.items; kinds = e.kinds.items; weight = e.weight } };
 }
 
 impl WorldEnd {
@@ -57,7 +55,7 @@ impl WorldEnd {
             up: false,
             unbroken: true,
             queue: VecDeque::new(alloc),
-            wire: VecDeque::new(alloc),
+            kinds: VecDeque::new(alloc),
             weight,
         }
     }
@@ -87,7 +85,7 @@ impl WorldEnd {
     pub fn can_handle(&self) -> bool
         ensures { result ≡ can_handle self.now }
     {
-        self.up && are_waiting(&self.wire)
+        self.up && self.is_sent()
     }
 
     /// Whether a message can be taken here.
@@ -97,33 +95,46 @@ impl WorldEnd {
         self.up && self.unbroken && are_waiting(&self.queue)
     }
 
+    /// Whether a message is on the wire.
+    pub fn is_sent(&self) -> bool
+        ensures { result ≡ not (no_kinds self.now.kinds) }
+    {
+        !self.kinds.is_empty()
+    }
+
+    /// How many messages are on the wire.
+    pub fn sent_count(&self) -> usize
+        ensures { result ≡ length self.now.kinds }
+    {
+        self.kinds.len()
+    }
+
     /// Whether only samples wait here.
     pub fn has_samples(&self) -> bool
-        ensures { result ≡ list_all (λ m. is_sample m.msg) (waiting_at self.now) }
+        ensures { result ≡ has_samples self.now }
     {
-        are_samples(&self.wire) && are_samples(&self.queue)
+        are_sample_kinds(&self.kinds) && are_samples(&self.queue)
     }
 
     /// How many messages wait here: at most 2^64 - 1.
     pub fn count(&self) -> u64
-        ensures { result ≡ min (length (waiting_at self.now)) (2 ^ 64 - 1) }
+        ensures { result ≡ min (waiting_count self.now) (2 ^ 64 - 1) }
     {
-        (self.wire.len() as u64).saturating_add(self.queue.len() as u64)
+        (self.kinds.len() as u64).saturating_add(self.queue.len() as u64)
     }
 
     /// How many bytes the keys and the bodies of the samples have that wait here: at most 2^64 - 1.
-    #[tactic(auto, using(crate::proofs::Sums::capped_both))]
     pub fn sample_bytes(&self) -> u64
-        ensures { result ≡ min (sum_by (λ m. sample_bytes m.msg) (waiting_at self.now)) (2 ^ 64 - 1) }
+        ensures { result ≡ min (waiting_bytes self.now) (2 ^ 64 - 1) }
     {
-        sample_bytes(&self.wire).saturating_add(sample_bytes(&self.queue))
+        kind_bytes(&self.kinds).saturating_add(sample_bytes(&self.queue))
     }
 
-    /// Whether nothing waits here.
-    pub fn is_idle(&self) -> bool
-        ensures { result ≡ is_idle self.now }
+    /// Whether nothing under way here unsettles.
+    pub fn is_calm(&self) -> bool
+        ensures { result ≡ is_calm_end self.now }
     {
-        !are_waiting(&self.wire) && !are_waiting(&self.queue)
+        are_calm_kinds(&self.kinds) && are_calm(&self.queue)
     }
 
     /// The same end, at which nothing waits.
@@ -134,24 +145,16 @@ impl WorldEnd {
             up: self.up,
             unbroken: self.unbroken,
             queue: VecDeque::new(alloc),
-            wire: VecDeque::new(alloc),
+            kinds: VecDeque::new(alloc),
             weight: self.weight,
         }
     }
 
-    /// What waits on the wire, and in the queue.
-    pub fn into_waiting(self) -> (VecDeque<Tagged>, VecDeque<Tagged>)
-        ensures wire { result.0.items ≡ self.wire }
-        ensures queue { result.1.items ≡ self.queue }
+    /// What waits in the queue.
+    pub fn into_queue(self) -> VecDeque<Tagged>
+        ensures { result.items ≡ self.queue }
     {
-        (self.wire, self.queue)
-    }
-
-    /// Whether nothing under way here unsettles.
-    pub fn is_calm(&self) -> bool
-        ensures { result ≡ is_calm_end self.now }
-    {
-        are_calm(&self.wire) && are_calm(&self.queue)
+        self.queue
     }
 
     /// The end comes up.
@@ -174,44 +177,42 @@ impl WorldEnd {
         ensures { self.new ≡ broken self.old }
     {
         self.unbroken = false;
-        self.wire.clear();
+        self.lose();
     }
 
-    /// A message comes onto the wire from the neighbour.
-    pub fn send(&mut self, msg: Msg, tag: u64) -> Result<(), AllocError>
-        ensures sent { OnOk result (self.new ≡ sent self.old msg tag) }
+    /// A message of this kind comes onto the wire.
+    pub fn announce(&mut self, kind: WireKind) -> Result<(), AllocError>
+        ensures announced { OnOk result (self.new ≡ announced self.old kind) }
         ensures err { OnErr result (self.new ≡ self.old) }
         ensures take { can_take self.new ≡ can_take self.old }
     {
-        self.wire.push_back(Tagged { msg, tag })?;
+        self.kinds.push_back(kind)?;
         Ok(())
+    }
+
+    /// The oldest message on the wire, where there is one, has left it.
+    pub fn pass(&mut self)
+        ensures passed { self.new ≡ passed self.old }
+        ensures take { can_take self.new ≡ can_take self.old }
+    {
+        drop(self.kinds.pop_front());
+    }
+
+    /// What was on the wire is lost.
+    pub fn lose(&mut self)
+        ensures lost { self.new ≡ lost self.old }
+        ensures take { can_take self.new ≡ can_take self.old }
+    {
+        self.kinds.clear();
     }
 
     /// The router queues a message for the neighbour.
     pub fn enqueue(&mut self, msg: Msg, tag: u64) -> Result<(), AllocError>
-        ensures queued { OnOk result (self.new ≡ queued self.old (msg ∷ []) tag) }
+        ensures queued { OnOk result (self.new ≡ queued self.old msg tag) }
         ensures err { OnErr result (self.new ≡ self.old) }
         ensures handle { can_handle self.new ≡ can_handle self.old }
     {
         self.queue.push_back(Tagged { msg, tag })?;
-        Ok(())
-    }
-
-    /// The oldest message on the wire, which leaves it.
-    pub fn next_sent(&mut self) -> Option<Tagged>
-        ensures found { IfSome result (λ x. (self.old.wire ≡ x ∷ self.new.wire) × (self.new ≡ with_wire self.old self.new.wire)) }
-        ensures none { IfNone result ((self.old.wire ≡ []) × (self.new ≡ self.old)) }
-    {
-        self.wire.pop_front()
-    }
-
-    /// A message that was taken off the wire is back on it, before all others.
-    pub fn put_back(&mut self, x: Tagged) -> Result<(), AllocError>
-        ensures back { OnOk result (self.new ≡ returned self.old x) }
-        ensures err { OnErr result (self.new ≡ self.old) }
-        ensures take { can_take self.new ≡ can_take self.old }
-    {
-        self.wire.push_front(x)?;
         Ok(())
     }
 
@@ -224,7 +225,8 @@ impl WorldEnd {
     }
 }
 
-fn are_waiting(waiting: &VecDeque<Tagged>) -> bool
+/// Whether messages wait.
+pub fn are_waiting(waiting: &VecDeque<Tagged>) -> bool
     ensures { result ≡ not (is_empty waiting.now.items) }
 {
     !waiting.is_empty()
@@ -236,40 +238,28 @@ fn are_calm(waiting: &VecDeque<Tagged>) -> bool
     waiting.iter().all(|x| is_calm(x))
 }
 
+fn are_calm_kinds(kinds: &VecDeque<WireKind>) -> bool
+    ensures { result ≡ list_all (λ k. k.calm) kinds.now.items }
+{
+    kinds.iter().all(|kind| kind.calm)
+}
+
+fn are_sample_kinds(kinds: &VecDeque<WireKind>) -> bool
+    ensures { result ≡ list_all (λ k. k.sample) kinds.now.items }
+{
+    kinds.iter().all(|kind| kind.sample)
+}
+
+fn is_calm(x: &Tagged) -> bool
+    ensures { result ≡ is_calm x.now }
+{
+    !unsettles(&x.msg)
+}
+
 fn are_samples(waiting: &VecDeque<Tagged>) -> bool
     ensures { result ≡ list_all (λ m. is_sample m.msg) waiting.now.items }
 {
     waiting.iter().all(|x| is_sample(&x.msg))
-}
-
-/// Whether a message is a sample.
-pub fn is_sample(msg: &Msg) -> bool
-    ensures { result ≡ is_sample msg.now }
-{
-    match msg {
-        Msg::Push { .. } => true,
-        Msg::Sub { .. }
-        | Msg::Unsub { .. }
-        | Msg::Token { .. }
-        | Msg::Untoken { .. }
-        | Msg::Able { .. }
-        | Msg::Unable { .. }
-        | Msg::Interest { .. }
-        | Msg::EndInterest { .. }
-        | Msg::ToldSub { .. }
-        | Msg::ToldAble { .. }
-        | Msg::ToldUnsub { .. }
-        | Msg::ToldToken { .. }
-        | Msg::ToldUntoken { .. }
-        | Msg::ToldUnable { .. }
-        | Msg::ToldEnd { .. }
-        | Msg::Request { .. }
-        | Msg::Response { .. }
-        | Msg::Final { .. }
-        | Msg::State { .. }
-        | Msg::Step { .. }
-        | Msg::Snap { .. } => false,
-    }
 }
 
 #[tactic(auto, using(crate::proofs::Sums::capped_both))]
@@ -290,74 +280,26 @@ fn bytes_of_all(waiting: &[Tagged]) -> u64
     sum
 }
 
-fn bytes_of(msg: &Msg) -> u64
-    ensures { result ≡ min (sample_bytes msg.now) (2 ^ 64 - 1) }
+#[tactic(auto, using(crate::proofs::Sums::capped_both))]
+fn kind_bytes(kinds: &VecDeque<WireKind>) -> u64
+    ensures { result ≡ min (sum_by (λ k. k.bytes) kinds.now.items) (2 ^ 64 - 1) }
 {
-    match msg {
-        Msg::Push { content, .. } => content_bytes(content),
-        Msg::Sub { .. }
-        | Msg::Unsub { .. }
-        | Msg::Token { .. }
-        | Msg::Untoken { .. }
-        | Msg::Able { .. }
-        | Msg::Unable { .. }
-        | Msg::Interest { .. }
-        | Msg::EndInterest { .. }
-        | Msg::ToldSub { .. }
-        | Msg::ToldAble { .. }
-        | Msg::ToldUnsub { .. }
-        | Msg::ToldToken { .. }
-        | Msg::ToldUntoken { .. }
-        | Msg::ToldUnable { .. }
-        | Msg::ToldEnd { .. }
-        | Msg::Request { .. }
-        | Msg::Response { .. }
-        | Msg::Final { .. }
-        | Msg::State { .. }
-        | Msg::Step { .. }
-        | Msg::Snap { .. } => 0,
+    let (front, back) = kinds.as_slices();
+    bytes_of_kinds(front).saturating_add(bytes_of_kinds(back))
+}
+
+fn bytes_of_kinds(kinds: &[WireKind]) -> u64
+    ensures { result ≡ min (sum_by (λ k. k.bytes) kinds.now) (2 ^ 64 - 1) }
+{
+    let mut sum: u64 = 0;
+    for kind in kinds {
+        sum = sum.saturating_add(bytes_in(kind));
     }
+    sum
 }
 
-fn content_bytes(content: &Content) -> u64
-    ensures { result ≡ min (length content.now.key + length content.now.body) (2 ^ 64 - 1) }
+fn bytes_in(kind: &WireKind) -> u64
+    ensures { result ≡ min kind.now.bytes (2 ^ 64 - 1) }
 {
-    let key = content.key().text().len() as u64;
-    key.saturating_add(content.body().as_slice().len() as u64)
-}
-
-fn is_calm(x: &Tagged) -> bool
-    ensures { result ≡ is_calm x.now }
-{
-    !unsettles(&x.msg)
-}
-
-// Whether a message changes what routers know of links and declarations.
-fn unsettles(msg: &Msg) -> bool
-    ensures { result ≡ unsettles msg.now }
-{
-    match msg {
-        Msg::Sub { .. }
-        | Msg::Unsub { .. }
-        | Msg::Able { .. }
-        | Msg::Unable { .. }
-        | Msg::Token { .. }
-        | Msg::Untoken { .. }
-        | Msg::State { .. }
-        | Msg::Step { .. }
-        | Msg::Snap { .. } => true,
-        Msg::Interest { .. }
-        | Msg::EndInterest { .. }
-        | Msg::ToldSub { .. }
-        | Msg::ToldAble { .. }
-        | Msg::ToldUnsub { .. }
-        | Msg::ToldUnable { .. }
-        | Msg::ToldToken { .. }
-        | Msg::ToldUntoken { .. }
-        | Msg::ToldEnd { .. }
-        | Msg::Push { .. }
-        | Msg::Request { .. }
-        | Msg::Response { .. }
-        | Msg::Final { .. } => false,
-    }
+    kind.bytes
 }

@@ -4,8 +4,9 @@ ghost use Rattle.std.specs.Prelude.{◌≡◌, None, IfSome, IfNone};
 ghost use Rattle.std.specs.List.Sorted.{IsStrictlySortedBy};
 ghost use Rattle.std.specs.Map.{keys_of};
 ghost use Rattle.zr_lists.specs.Place.{IsPlace};
-ghost use Rattle.zr_world_spec.specs.World.{End, EndState, end_cmp, end_of};
+ghost use Rattle.zr_world_spec.specs.World.{end_cmp};
 ghost use Rattle.zr_world_ends.specs.Index.{IsThere};
+ghost use Rattle.zr_world_ends.specs.Named.{at_end};
 
 use crate::end::WorldEnd;
 use zr_id::zid::Zid;
@@ -25,7 +26,7 @@ pub fn place_of(ends: &[NamedEnd], at: &(Zid, Zid)) -> Result<usize, usize>
 pub fn find(ends: &[NamedEnd], at: &(Zid, Zid)) -> Option<usize>
     requires { IsStrictlySortedBy end_cmp (keys_of ends.now) }
     ensures there { IfSome result (IsThere ends.now at.now) }
-    ensures none { IfNone result (end_of ends.now at.now ≡ None) }
+    ensures none { IfNone result (at_end ends.now at.now ≡ None) }
 {
     place_of(ends, at).ok()
 }

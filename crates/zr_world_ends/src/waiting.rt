@@ -1,16 +1,17 @@
 //! What each change of an end does to the ends, and to the marks of the ends at which a step is possible.
 
-ghost use Rattle.std.specs.Prelude.{◌≡◌, ◌∷◌, [], ◌*◌, ◌<◌, ◌≤◌, ◌==◌, cond, false, ℕ, List, length, IfOk, OnOk};
+ghost use Rattle.std.specs.Prelude.{◌≡◌, ◌∷◌, [], ◌*◌, ◌<◌, ◌≤◌, ◌==◌, cond, false, ℕ, List, length, IfOk, OnOk, OnErr};
 ghost use Rattle.std.specs.List.{insert};
 ghost use Rattle.std.specs.List.Sorted.{IsStrictlySortedBy};
 ghost use Rattle.std.specs.Map.{keys_of};
-ghost use Rattle.zr_world_spec.specs.World.{end_cmp, end_of, changed, sent, queued, broken, lifted, lowered, put_end};
-ghost use Rattle.zr_law_fan.specs.Samples.{emptied};
-ghost use Rattle.zr_world_spec.specs.Next.{can_handle, can_take};
+ghost use Rattle.zr_world_spec.specs.World.{end_cmp};
 ghost use Rattle.zr_world_ends.specs.Index.{IsIndexed, IsThere, has_mark};
-ghost use Rattle.zr_world_ends.specs.Steps.{Gives, changed_at, returned, from_wire, from_queue};
+ghost use Rattle.zr_world_ends.specs.Kept.{announced, broken, can_handle, can_take, emptied, lifted, lost, lowered, passed, queued};
+ghost use Rattle.zr_world_ends.specs.Named.{change_at, put_at};
+ghost use Rattle.zr_world_ends.specs.Steps.{Gives, from_kept};
 
 use crate::end::{Tagged, WorldEnd};
+use crate::kind::WireKind;
 use crate::marks::{make_room, set};
 use crate::places::{NamedEnd, find, place_of};
 use std::alloc::{AllocError, Global};
@@ -19,27 +20,56 @@ use zr_id::zid::Zid;
 use zr_msg::msg::Msg;
 use zr_script_spec::error::ScriptError;
 
-/// A message comes onto the wire of an end.
-pub fn send(
+/// A message of this kind comes onto the wire of an end.
+pub fn announce(
     ends: &mut [NamedEnd],
     to_handle: &mut [u64],
     at: (Zid, Zid),
-    msg: Msg,
-    tag: u64,
+    kind: WireKind,
 ) -> Result<(), AllocError>
     requires ordered { IsStrictlySortedBy end_cmp (keys_of ends.old) }
     requires room { length ends.old ≤ 64 * length to_handle.old }
-    ensures sent { OnOk result (ends.new ≡ changed_at ends.old at (λ s. sent s msg tag) (end_of ends.old at)) }
-    ensures changed { OnOk result (ends.new ≡ changed ends.old at (λ s. sent s msg tag)) }
+    ensures announced { OnOk result (ends.new ≡ change_at ends.old at (λ k. announced k kind)) }
+    ensures err { OnErr result (ends.new ≡ ends.old) }
     ensures index { (to_take : List ℕ) → IsIndexed ends.old to_handle.old to_take → IsIndexed ends.new to_handle.new to_take }
 {
     let Some(place) = find(ends, &at) else {
         return Ok(());
     };
     let end = &mut ends[place].1;
-    let done = end.send(msg, tag);
+    let done = end.announce(kind);
     set(to_handle, place, end.can_handle());
     done
+}
+
+/// The oldest message on the wire of an end, where there is one, has left it.
+pub fn pass(ends: &mut [NamedEnd], to_handle: &mut [u64], at: (Zid, Zid))
+    requires ordered { IsStrictlySortedBy end_cmp (keys_of ends.old) }
+    requires room { length ends.old ≤ 64 * length to_handle.old }
+    ensures passed { ends.new ≡ change_at ends.old at passed }
+    ensures index { (to_take : List ℕ) → IsIndexed ends.old to_handle.old to_take → IsIndexed ends.new to_handle.new to_take }
+{
+    let Some(place) = find(ends, &at) else {
+        return;
+    };
+    let end = &mut ends[place].1;
+    end.pass();
+    set(to_handle, place, end.can_handle());
+}
+
+/// What was on the wire of an end is lost.
+pub fn lose(ends: &mut [NamedEnd], to_handle: &mut [u64], at: (Zid, Zid))
+    requires ordered { IsStrictlySortedBy end_cmp (keys_of ends.old) }
+    requires room { length ends.old ≤ 64 * length to_handle.old }
+    ensures lost { ends.new ≡ change_at ends.old at lost }
+    ensures index { (to_take : List ℕ) → IsIndexed ends.old to_handle.old to_take → IsIndexed ends.new to_handle.new to_take }
+{
+    let Some(place) = find(ends, &at) else {
+        return;
+    };
+    let end = &mut ends[place].1;
+    end.lose();
+    set(to_handle, place, end.can_handle());
 }
 
 /// A message comes into the queue of an end.
@@ -52,7 +82,8 @@ pub fn enqueue(
 ) -> Result<(), AllocError>
     requires ordered { IsStrictlySortedBy end_cmp (keys_of ends.old) }
     requires room { length ends.old ≤ 64 * length to_take.old }
-    ensures queued { OnOk result (ends.new ≡ changed ends.old at (λ s. queued s (msg ∷ []) tag)) }
+    ensures queued { OnOk result (ends.new ≡ change_at ends.old at (λ k. queued k msg tag)) }
+    ensures err { OnErr result (ends.new ≡ ends.old) }
     ensures index { (to_handle : List ℕ) → IsIndexed ends.old to_handle to_take.old → IsIndexed ends.new to_handle to_take.new }
 {
     let Some(place) = find(ends, &at) else {
@@ -64,55 +95,8 @@ pub fn enqueue(
     done
 }
 
-/// The oldest message on the wire of an end that is up, which leaves it.
-#[tactic(auto, unfolding(crate::specs::Steps::from_wire))]
-pub fn next_sent(
-    ends: &mut [NamedEnd],
-    to_handle: &mut [u64],
-    at: (Zid, Zid),
-) -> Result<Tagged, ScriptError>
-    requires ordered { IsStrictlySortedBy end_cmp (keys_of ends.old) }
-    requires room { length ends.old ≤ 64 * length to_handle.old }
-    ensures steps { Gives result (from_wire ends.old at) ends.old ends.new }
-    ensures index { (to_take : List ℕ) → IsIndexed ends.old to_handle.old to_take → IsIndexed ends.new to_handle.new to_take }
-{
-    let Some(place) = find(ends, &at) else {
-        return Err(ScriptError::NotLinked);
-    };
-    let end = &mut ends[place].1;
-    if !end.is_up() {
-        return Err(ScriptError::NotLinked);
-    }
-    let Some(x) = end.next_sent() else {
-        return Err(ScriptError::NothingThere);
-    };
-    set(to_handle, place, end.can_handle());
-    Ok(x)
-}
-
-/// A message that was taken off the wire of an end is back on it, before all others.
-pub fn put_back(
-    ends: &mut [NamedEnd],
-    to_handle: &mut [u64],
-    at: (Zid, Zid),
-    x: Tagged,
-) -> Result<(), AllocError>
-    requires ordered { IsStrictlySortedBy end_cmp (keys_of ends.old) }
-    requires room { length ends.old ≤ 64 * length to_handle.old }
-    ensures back { OnOk result (ends.new ≡ changed_at ends.old at (λ s. returned s x) (end_of ends.old at)) }
-    ensures index { (to_take : List ℕ) → IsIndexed ends.old to_handle.old to_take → IsIndexed ends.new to_handle.new to_take }
-{
-    let Some(place) = find(ends, &at) else {
-        return Ok(());
-    };
-    let end = &mut ends[place].1;
-    let done = end.put_back(x);
-    set(to_handle, place, end.can_handle());
-    done
-}
-
 /// The oldest message in the queue of an end that is up, where the link is unbroken. It leaves the queue.
-#[tactic(auto, unfolding(crate::specs::Steps::from_queue))]
+#[tactic(auto, unfolding(crate::specs::Steps::from_kept))]
 pub fn next_queued(
     ends: &mut [NamedEnd],
     to_take: &mut [u64],
@@ -120,7 +104,7 @@ pub fn next_queued(
 ) -> Result<Tagged, ScriptError>
     requires ordered { IsStrictlySortedBy end_cmp (keys_of ends.old) }
     requires room { length ends.old ≤ 64 * length to_take.old }
-    ensures steps { Gives result (from_queue ends.old at) ends.old ends.new }
+    ensures steps { Gives result (from_kept ends.old at) ends.old ends.new }
     ensures index { (to_handle : List ℕ) → IsIndexed ends.old to_handle to_take.old → IsIndexed ends.new to_handle to_take.new }
 {
     let Some(place) = find(ends, &at) else {
@@ -141,25 +125,19 @@ pub fn next_queued(
 }
 
 /// An end comes up.
-pub fn lift(
-    ends: &mut [NamedEnd],
-    to_handle: &mut [u64],
-    to_take: &mut [u64],
-    at: (Zid, Zid),
-) -> Result<(), AllocError>
+pub fn lift(ends: &mut [NamedEnd], to_handle: &mut [u64], to_take: &mut [u64], at: (Zid, Zid))
     requires ordered { IsStrictlySortedBy end_cmp (keys_of ends.old) }
     requires handle_room { length ends.old ≤ 64 * length to_handle.old }
     requires take_room { length ends.old ≤ 64 * length to_take.old }
-    ensures lifted { OnOk result (ends.new ≡ changed_at ends.old at lifted (end_of ends.old at)) }
+    ensures lifted { ends.new ≡ change_at ends.old at lifted }
     ensures index { IsIndexed ends.old to_handle.old to_take.old → IsIndexed ends.new to_handle.new to_take.new }
 {
     let Some(place) = find(ends, &at) else {
-        return Ok(());
+        return;
     };
     let end = &mut ends[place].1;
     end.lift();
     mark(end, to_handle, to_take, place);
-    Ok(())
 }
 
 /// An end goes down, and what was queued there is lost.
@@ -167,7 +145,7 @@ pub fn lower(ends: &mut [NamedEnd], to_handle: &mut [u64], to_take: &mut [u64], 
     requires ordered { IsStrictlySortedBy end_cmp (keys_of ends.old) }
     requires handle_room { length ends.old ≤ 64 * length to_handle.old }
     requires take_room { length ends.old ≤ 64 * length to_take.old }
-    ensures lowered { ends.new ≡ changed ends.old at lowered }
+    ensures lowered { ends.new ≡ change_at ends.old at lowered }
     ensures index { IsIndexed ends.old to_handle.old to_take.old → IsIndexed ends.new to_handle.new to_take.new }
 {
     let Some(place) = find(ends, &at) else {
@@ -183,7 +161,7 @@ pub fn break_off(ends: &mut [NamedEnd], to_handle: &mut [u64], to_take: &mut [u6
     requires ordered { IsStrictlySortedBy end_cmp (keys_of ends.old) }
     requires handle_room { length ends.old ≤ 64 * length to_handle.old }
     requires take_room { length ends.old ≤ 64 * length to_take.old }
-    ensures broken { ends.new ≡ changed ends.old at broken }
+    ensures broken { ends.new ≡ change_at ends.old at broken }
     ensures index { IsIndexed ends.old to_handle.old to_take.old → IsIndexed ends.new to_handle.new to_take.new }
 {
     let Some(place) = find(ends, &at) else {
@@ -203,7 +181,8 @@ pub fn put(
     new: WorldEnd,
 ) -> Result<(), AllocError>
     requires index { IsIndexed ends.old.items to_handle.old.items to_take.old.items }
-    ensures put { OnOk result (ends.new.items ≡ put_end ends.old.items at new) }
+    ensures put { OnOk result (ends.new.items ≡ put_at ends.old.items at new) }
+    ensures err { OnErr result (ends.new.items ≡ ends.old.items) }
     ensures index { IsIndexed ends.new.items to_handle.new.items to_take.new.items }
 {
     match place_of(ends, &at) {
@@ -254,7 +233,7 @@ fn replace(
 )
     requires place { IsThere ends.old at.now place }
     requires index { IsIndexed ends.old to_handle.old to_take.old }
-    ensures put { ends.new ≡ put_end ends.old at.now new }
+    ensures put { ends.new ≡ put_at ends.old at.now new }
     ensures index { IsIndexed ends.new to_handle.new to_take.new }
 {
     let end = &mut ends[place].1;
@@ -274,6 +253,7 @@ fn insert(
     requires ordered { IsStrictlySortedBy end_cmp (keys_of (insert ends.old.items place new)) }
     requires index { IsIndexed ends.old.items to_handle.old.items to_take.old.items }
     ensures put { OnOk result (ends.new.items ≡ insert ends.old.items place new) }
+    ensures err { OnErr result (ends.new.items ≡ ends.old.items) }
     ensures index { IsIndexed ends.new.items to_handle.new.items to_take.new.items }
 {
     make_room(to_handle, ends.len())?;

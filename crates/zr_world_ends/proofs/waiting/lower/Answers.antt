@@ -1,5 +1,5 @@
 use Rattle.std.proofs.Common.{rules}
-use Rattle.zr_world_spec.specs.World.{lowered}
+use Rattle.zr_world_ends.specs.Kept.{lowered}
 use Rattle.zr_world_ends.proofs.Same.{changed_by_look_up}
 use Rattle.zr_world_ends.proofs.Index.{both_changed}
 use Rattle.zr_world_ends.proofs.waiting.lower.Goals as goal

@@ -1,6 +1,6 @@
 -- The places before this one are marked anew, and the others as they were.
 use Rattle.std.proofs.Common.{◌≡◌, ℕ, cond, nat_lt, length}
-use Rattle.zr_world_spec.specs.Next.{can_handle, can_take}
+use Rattle.zr_world_ends.specs.Kept.{can_handle, can_take}
 use Rattle.zr_world_ends.specs.Index.{has_mark, passes_at}
 use Rattle.zr_world_ends.proofs.waiting.mark_all.Given as goal
 

@@ -1,5 +1,5 @@
 use Rattle.std.proofs.Common.{sym, ap, ◌∙◌}
-use Rattle.zr_world_spec.specs.Next.{can_handle}
+use Rattle.zr_world_ends.specs.Kept.{can_handle}
 use Rattle.zr_world_ends.proofs.Giving.{queue_gives}
 use Rattle.zr_world_ends.proofs.Index.{takes_changed}
 use Rattle.zr_world_ends.proofs.waiting.next_queued.Goals as goal

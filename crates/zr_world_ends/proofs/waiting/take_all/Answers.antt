@@ -1,7 +1,8 @@
 use Rattle.std.proofs.Common.{◌≡◌, Vec, ap, sym, ◌∙◌, subst}
 use Rattle.std.specs.declared.alloc.Global.{Global}
-use Rattle.zr_law_fan.specs.Samples.{emptied}
-use Rattle.zr_world_spec.specs.World.{End, EndState, Ends}
+use Rattle.zr_world_ends.specs.Kept.{emptied}
+use Rattle.zr_world_spec.specs.World.{End}
+use Rattle.zr_world_ends.specs.Kept.{KeptEnd, KeptEnds}
 use Rattle.zr_world_ends.specs.Index.{IsIndexed}
 use Rattle.zr_world_ends.proofs.Idle.{idle_ordered, idle_room, idle_no_handle, idle_no_take}
 use Rattle.zr_world_ends.proofs.waiting.take_all.Goals as goal
@@ -33,5 +34,5 @@ mark_all-requires-clause-no_take c =
 
 pub returns-clause-index : goal.returns-clause-index
 returns-clause-index c =
-    let there : c.deref-2.result.now ≡ c.replace.new.dest.items = c.deref-2.ensures.value ∙ ap (λ (v : Vec (End × EndState) Global). v.items) (sym c.replace.ensures.after) in
-    subst (λ (z : Ends). IsIndexed z c.mark_all.new.to_handle c.mark_all.new.to_take) there c.mark_all.ensures
+    let there : c.deref-2.result.now ≡ c.replace.new.dest.items = c.deref-2.ensures.value ∙ ap (λ (v : Vec (End × KeptEnd) Global). v.items) (sym c.replace.ensures.after) in
+    subst (λ (z : KeptEnds). IsIndexed z c.mark_all.new.to_handle c.mark_all.new.to_take) there c.mark_all.ensures

@@ -1,5 +1,11 @@
-use Rattle.zr_world_ends.proofs.Index.{indexed_none}
+use Rattle.std.proofs.Common.{sym, ap, subst}
+use Rattle.zr_world_ends.specs.Carried.{AreCarried, seen_ends}
+use Rattle.zr_world_ends.specs.Kept.{KeptEnds}
+use Rattle.zr_world_ends.proofs.Draining.{carried_none}
 use Rattle.zr_world_ends.proofs.ends.Ends.new.Goals as goal
 
 pub invariant_of-result : goal.invariant_of-result
-invariant_of-result c = rw (c.new.ensures.items, c.new-2.ensures.items, c.new-3.ensures.items) indexed_none
+invariant_of-result g c = subst (λ (z : KeptEnds). AreCarried (g.C.Carrier.wire c.args.carrier) z) (sym c.new.ensures) (carried_none (g.C.Carrier.wire c.args.carrier))
+
+pub returns : goal.returns
+returns g c = ap (λ (z : KeptEnds). seen_ends (g.C.Carrier.wire c.args.carrier) z) c.new.ensures

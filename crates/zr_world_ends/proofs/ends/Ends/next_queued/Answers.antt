@@ -1,8 +1,11 @@
-use Rattle.std.proofs.Common.{◌∙◌}
-use Rattle.zr_world_ends.proofs.Index.{lent_takes}
+use Rattle.zr_world_ends.proofs.Carrying.{queue_carried, queue_seen, paired_seen}
 use Rattle.zr_world_ends.proofs.ends.Ends.next_queued.Goals as goal
 
 pub invariant_of-self : goal.invariant_of-self
-invariant_of-self c =
-    lent_takes c.self.inside.list.items _ c.next_queued.new.ends c.self.inside.to_handle.items c.self.inside.to_take.items _ c.next_queued.new.to_take _ _ c.deref_mut.ensures.value c.deref_mut-2.ensures.value
-    (c.next_queued.auto.ends ∙ c.deref_mut.ensures.len) (c.next_queued.auto.to_take ∙ c.deref_mut-2.ensures.len) (c.next_queued.ensures.index _) c.self.invariant
+invariant_of-self g c = queue_carried (g.C.Carrier.wire c.self.inside.carrier) c.self.inside.queues c.self.invariant c.args.at c.next_queued.result c.next_queued.new.self c.next_queued.ensures
+
+pub returns-clause-steps : goal.returns-clause-steps
+returns-clause-steps g c = rw (← c.self.view_is) (queue_seen (g.C.Carrier.wire c.self.inside.carrier) c.self.inside.queues c.self.invariant c.args.at c.next_queued.result c.next_queued.new.self c.next_queued.ensures)
+
+pub returns-clause-paired : goal.returns-clause-paired
+returns-clause-paired g c = paired_seen (g.C.Carrier.wire c.self.inside.carrier) c.next_queued.new.self (queue_carried (g.C.Carrier.wire c.self.inside.carrier) c.self.inside.queues c.self.invariant c.args.at c.next_queued.result c.next_queued.new.self c.next_queued.ensures)

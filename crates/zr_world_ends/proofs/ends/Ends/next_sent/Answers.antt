@@ -1,8 +1,7 @@
-use Rattle.std.proofs.Common.{◌∙◌}
-use Rattle.zr_world_ends.proofs.Index.{lent_handles}
 use Rattle.zr_world_ends.proofs.ends.Ends.next_sent.Goals as goal
 
 pub invariant_of-self : goal.invariant_of-self
-invariant_of-self c =
-    lent_handles c.self.inside.list.items _ c.next_sent.new.ends c.self.inside.to_handle.items _ c.next_sent.new.to_handle c.self.inside.to_take.items _ _ c.deref_mut.ensures.value c.deref_mut-2.ensures.value
-    (c.next_sent.auto.ends ∙ c.deref_mut.ensures.len) (c.next_sent.auto.to_handle ∙ c.deref_mut-2.ensures.len) (c.next_sent.ensures.index _) c.self.invariant
+invariant_of-self g c = c.receive.ensures.carried
+
+pub returns : goal.returns
+returns g c = rw (← c.self.view_is) c.receive.ensures.steps

@@ -1,8 +1,19 @@
-use Rattle.std.proofs.Common.{◌∙◌}
-use Rattle.zr_world_ends.proofs.Index.{lent_handles}
+use Rattle.std.proofs.Common.{subst}
+use Rattle.zr_world_spec.specs.World.{Ends}
+use Rattle.zr_world_ends.specs.Carried.{MayArrive}
 use Rattle.zr_world_ends.proofs.ends.Ends.send.Goals as goal
 
+pub send-requires-clause-may : goal.send-requires-clause-may
+send-requires-clause-may g c = rw c.self.view_is c.requires
+
+pub send-requires-clause-carried : goal.send-requires-clause-carried
+send-requires-clause-carried g c = c.self.invariant
+
 pub invariant_of-self : goal.invariant_of-self
-invariant_of-self c =
-    lent_handles c.self.inside.list.items _ c.send.new.ends c.self.inside.to_handle.items _ c.send.new.to_handle c.self.inside.to_take.items _ _ c.deref_mut.ensures.value c.deref_mut-2.ensures.value
-    (c.send.auto.ends ∙ c.deref_mut.ensures.len) (c.send.auto.to_handle ∙ c.deref_mut-2.ensures.len) (c.send.ensures.index _) c.self.invariant
+invariant_of-self g c = c.send.ensures.carried
+
+pub returns-clause-sent : goal.returns-clause-sent
+returns-clause-sent g c = rw (← c.self.view_is) c.send.ensures.sent
+
+pub returns-clause-changed : goal.returns-clause-changed
+returns-clause-changed g c = rw (← c.self.view_is) c.send.ensures.changed
