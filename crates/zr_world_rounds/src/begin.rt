@@ -12,12 +12,13 @@ use std::alloc::AllocError;
 use std::collections::VecDeque;
 use zr_id::zid::Zid;
 use zr_law_rounds::{all_have_begun, end_goes, start_goes};
-use zr_world_ends::end::{Tagged, WorldEnd};
+use zr_world_ends::drained::{Drained, NamedDrained};
+use zr_world_ends::end::Tagged;
 use zr_world_gang::share::Share;
 
 /// What waits at the ends of a world begins: what is on a wire is to be handled, and what is queued has been taken. Out of memory too where something waits at
 /// an end that is not up; no script comes to such a world.
-pub fn begin_all(shares: &mut [Share], ends: Vec<((Zid, Zid), WorldEnd)>) -> Result<(), AllocError>
+pub fn begin_all(shares: &mut [Share], ends: Vec<NamedDrained>) -> Result<(), AllocError>
     ensures gone { OnOk result ((w : WorldState) → MayFan w shares.old → ends.items ≡ w.ends → AreUnderWay w shares.new) }
     ensures stay { OnOk result (Stay shares.old shares.new) }
 {
@@ -31,7 +32,7 @@ pub fn begin_all(shares: &mut [Share], ends: Vec<((Zid, Zid), WorldEnd)>) -> Res
     Ok(())
 }
 
-fn begin(shares: &mut [Share], router: Zid, neighbour: Zid, end: WorldEnd) -> Result<(), AllocError>
+fn begin(shares: &mut [Share], router: Zid, neighbour: Zid, end: Drained) -> Result<(), AllocError>
     ensures { OnOk result (HasBegun (router, neighbour) end shares.old shares.new) }
 {
     if is_stuck(&end) {
@@ -44,7 +45,7 @@ fn begin(shares: &mut [Share], router: Zid, neighbour: Zid, end: WorldEnd) -> Re
 }
 
 // Whether something waits at an end that is not up.
-fn is_stuck(end: &WorldEnd) -> bool
+fn is_stuck(end: &Drained) -> bool
     ensures { result ≡ (not end.now.up && not (is_idle end.now)) }
 {
     !end.is_up() && !end.is_idle()

@@ -11,10 +11,9 @@ use crate::rounds::all_rounds;
 use crate::told::told;
 use std::alloc::{AllocError, Global};
 use std::thread::Threads;
-use zr_id::zid::Zid;
 use zr_law_rounds::rounds_tell;
 use zr_script_spec::report::ReportLine;
-use zr_world_ends::end::WorldEnd;
+use zr_world_ends::drained::NamedDrained;
 use zr_world_gang::gang::Gang;
 use zr_world_gang::share::Share;
 
@@ -24,7 +23,7 @@ pub fn fan<R: Threads + Sync, G: Gang>(
     alloc: Global,
     gang: &mut G,
     shares: Vec<Share>,
-    ends: Vec<((Zid, Zid), WorldEnd)>,
+    ends: Vec<NamedDrained>,
 ) -> Result<(ReportLine, Vec<Share>), AllocError>
     ensures done { IfOk result (λ x. (w : WorldState) → MayFan w shares.items → ends.items ≡ w.ends → (line : ℕ) → fan_done line w ≡ Ok (x.0 ∷ [], quieted w)) }
     ensures stay { IfOk result (λ x. (w : WorldState) → MayFan w shares.items → ends.items ≡ w.ends → Stay shares.items x.1.items) }

@@ -9,7 +9,7 @@ ghost use Rattle.zr_world_gang.specs.Shares.{ShareState};
 use std::alloc::AllocError;
 use zr_id::zid::Zid;
 use zr_msg::msg::Msg;
-use zr_world_ends::end::is_sample;
+use zr_world_ends::kind::is_sample;
 use zr_world_gang::share::Share;
 
 /// A sample from a neighbour is to be handled at an end. Out of memory too where the end's router is none of these, has no link to the neighbour, or the
