@@ -2,9 +2,10 @@ pub mod Events
 pub mod Searching
 pub mod Possible
 pub mod Fanning
+pub mod Going
 pub mod Hearing
+pub mod Kept
 pub mod Moving
 pub mod Passing
-pub mod Returned
 pub mod Refusing
 pub mod Show

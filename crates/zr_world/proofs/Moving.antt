@@ -29,7 +29,7 @@ use Rattle.zr_world_spec.specs.Sound.{AreUnique}
 use Rattle.zr_world_spec.proofs.Ends.{keys_with_end}
 use Rattle.zr_world_spec.proofs.Keyed.{there}
 use Rattle.zr_world_spec.proofs.Telling.{heard_is}
-use Rattle.zr_world_ends.specs.Steps.{Gives, from_wire, from_queue}
+use Rattle.zr_world_ends.specs.Steps.{Brings, Gives, from_wire, from_queue}
 use Rattle.zr_world.specs.Hearing.{IsHeard}
 use Rattle.zr_world.specs.Living.{lines_of}
 use Rattle.zr_world_ends.specs.Spread.{all_queued_on}
@@ -246,8 +246,9 @@ wire_ordered es q y h ordered = by (end_of es q) h
 -- ---- refusals
 
 pub handle_refused : (w w' : WorldState) (router from : List ℕ) (r : RouterState) (l : LinkPeer) (error : ScriptError) (es' : Ends) (before : List ReportLine) →
-    router_of w.routers router ≡ Some r → is_taken w from ≡ true → link_to r.node.links from ≡ Some l → Gives {A = Tagged} {S = Ends} (Err error) (from_wire w.ends (router, from)) w.ends es' →
+    router_of w.routers router ≡ Some r → is_taken w from ≡ true → link_to r.node.links from ≡ Some l → Brings {A = Tagged} {S = Ends} (Err error) (from_wire w.ends (router, from)) w.ends es' →
     (es' ≡ w.ends → w' ≡ w) → AppliesTo (Err error) (handle_step w router from) w w' before before
+handle_refused w w' router from r l e.NoMemory es' before er et el h same = no_lines before (lines_of (handle_step w router from))
 handle_refused w w' router from r l error es' before er et el h same =
     refused error (handle_step w router from) w w' before (handle_by w router from r l er et el ∙ ap (λ o. o >>= handled_by w router from r l.link) h.0) (same h.1)
 

@@ -12,12 +12,19 @@ use Rattle.zr_world_spec.specs.Acts.{Outcome, outcome}
 use Rattle.zr_world_spec.specs.Next.{Done, next, book_step, fan_step}
 use Rattle.zr_world_spec.proofs.Sound.{next_goes}
 use Rattle.zr_law_numbers.specs.Calls.{most_commands}
+use Rattle.zr_law_calls.specs.Fitting.{IsFit}
 use Rattle.zr_law_calls.specs.Reached.{IsReached}
 use Rattle.zr_law_calls.specs.Limits.{passes_limit}
 use Rattle.zr_law_calls.proofs.Reached.{reached_applied, reached_booked, reached_fanned, reached_sound, reached_waiting}
 use Rattle.zr_law_calls.proofs.Limits.{limits_met}
+use Rattle.zr_law_carried.proofs.Reached.{reached_carriable}
 use Rattle.zr_world.specs.Steps.{AppliesTo, Counts, is_out_of_memory}
+use Rattle.zr_world.specs.Led.{IsLed}
 use Rattle.zr_world.specs.Living.{Living, Applies, IsPossible}
+
+-- what the tables ask of a world holds where calls lead to it
+pub reached_led : (w : WorldState) (n : ℕ) → IsReached w n → IsLed w
+reached_led w n h = record { sound = reached_sound w n h; taken = reached_waiting w n h; carriable = reached_carriable w n h }
 
 -- counting
 pub counted_reached : (r : Result (Unit {0}) ScriptError) (w w' : WorldState) (n steps : ℕ) → Counts r (book_step w steps) w w' → IsReached w n → IsReached w' n
@@ -25,19 +32,19 @@ counted_reached (Ok u) w w' n steps e h = reached_booked w w' n steps h e
 counted_reached (Err e) w w' n steps k h = subst (λ (v : WorldState). IsReached v n) (sym k.1) h
 
 -- an act that was accepted
-done_reached : (w w' : WorldState) (n line : ℕ) (act : Act) (before after : List ReportLine) → AppliesTo (Ok tt) (outcome w line act) w w' before after → n < most_commands → IsReached w n → IsReached w' (n + 1)
-done_reached w w' n line act before after k room h = by (outcome w line act) refl k
+done_reached : (w w' : WorldState) (n line : ℕ) (act : Act) (before after : List ReportLine) → AppliesTo (Ok tt) (outcome w line act) w w' before after → IsFit act → n < most_commands → IsReached w n → IsReached w' (n + 1)
+done_reached w w' n line act before after k fit room h = by (outcome w line act) refl k
   where
     by : (o : Outcome) → outcome w line act ≡ o → AppliesTo (Ok tt) o w w' before after → IsReached w' (n + 1)
-    by (Ok x) e a = subst (λ (v : WorldState). IsReached v (n + 1)) (sym a.0.0) (reached_applied w n line act x h room e)
+    by (Ok x) e a = subst (λ (v : WorldState). IsReached v (n + 1)) (sym a.0.0) (reached_applied w n line act x h fit room e)
     by (Err e) is a = absurd (false≢true a.1)
 
 -- an act that was accepted or refused
-pub act_reached : (d : Result (Unit {0}) ScriptError) (w w' : WorldState) (n line : ℕ) (act : Act) (before after : List ReportLine) → AppliesTo d (outcome w line act) w w' before after → n < most_commands →
+pub act_reached : (d : Result (Unit {0}) ScriptError) (w w' : WorldState) (n line : ℕ) (act : Act) (before after : List ReportLine) → AppliesTo d (outcome w line act) w w' before after → IsFit act → n < most_commands →
     IsReached w n → is_out_of_memory d ≡ false → IsReached w' (cond (is_ok d) (n + 1) n)
-act_reached (Ok u) w w' n line act before after k room h living = done_reached w w' n line act before after k room h
-act_reached (Err NoMemory) w w' n line act before after k room h living = absurd (true≢false living)
-act_reached (Err refusal) w w' n line act before after k room h living = subst (λ (v : WorldState). IsReached v n) (sym k.1) h
+act_reached (Ok u) w w' n line act before after k fit room h living = done_reached w w' n line act before after k fit room h
+act_reached (Err NoMemory) w w' n line act before after k fit room h living = absurd (true≢false living)
+act_reached (Err refusal) w w' n line act before after k fit room h living = subst (λ (v : WorldState). IsReached v n) (sym k.1) h
 
 -- a fan that was accepted
 swept_reached : (w w' : WorldState) (n line : ℕ) (before after : List ReportLine) → AppliesTo (Ok tt) (fan_step w line) w w' before after → IsReached w n → IsReached w' n

@@ -18,8 +18,7 @@ use Rattle.zr_world_ends.specs.Steps.{from_wire}
 use Rattle.zr_world.specs.Hearing.{IsHeard, IsHandled}
 use Rattle.zr_world.specs.Living.{lines_of}
 use Rattle.zr_world.specs.Steps.{AppliesTo, Does}
-use Rattle.zr_world.proofs.Moving.{hears_refused, client_by, up_by, handle_by, handled_by, no_lines}
-use Rattle.zr_world.proofs.Returned.{back_is}
+use Rattle.zr_world.proofs.Moving.{hears_refused, client_by, up_by}
 
 -- ---- `down`
 
@@ -88,17 +87,3 @@ up_refused w w' line router name r r' s out e.NoMemory er et es unbroken up hear
 up_refused w w' line router name r r' s out error er et es unbroken up heard same =
     let k = hears_refused (with_ends w (with_end w.ends (router, name) (lifted s))) router r r' (up_event r (peer_of w name s.weight)) out line error heard (λ (z : error ≡ e.NoMemory). cc) in
     (up_by w line router name r s er et es unbroken up (Err error) k.0, same k.1)
-
--- ---- `handle`
-
-pub handle_limited : (w w' : WorldState) (router from : List ℕ) (r r' : RouterState) (l : LinkPeer) (x : Tagged) (es es' : Ends) (out : List (LinkNo × Msg)) (before : List ReportLine) (error : ScriptError) →
-    router_of w.routers router ≡ Some r → is_taken w from ≡ true → link_to r.node.links from ≡ Some l → from_wire w.ends (router, from) ≡ Ok (x, es) →
-    IsHandled (Err error) r r' l.link x (router, from) es es' out → (r' ≡ r → es' ≡ w.ends → w' ≡ w) → AppliesTo (Err error) (handle_step w router from) w w' before before
-handle_limited w w' router from r r' l x es es' out before e.NoMemory er et el told heard same = no_lines before (lines_of (handle_step w router from))
-handle_limited w w' router from r r' l x es es' out before error er et el told heard same =
-    let k = hears_refused (with_ends w es) router r r' (From l.link x.msg) out x.tag error heard.0 (λ (z : error ≡ e.NoMemory). cc) in (
-      handle_by w router from r l er et el ∙ ap (λ o. o >>= handled_by w router from r l.link) told
-          ∙ ap (λ (o : Result WorldState ScriptError). o >>= (λ v. Ok (Handled router from x.msg x.tag ∷ [], v))) k.0,
-      same k.1 (heard.1 ∙ back_is w.ends (router, from) (x, es) told),
-      refl,
-    )

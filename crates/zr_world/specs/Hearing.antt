@@ -9,9 +9,8 @@ use Rattle.zr_msg.specs.declared.msg.Msg.{Msg}
 use Rattle.zr_script_spec.specs.declared.error.ScriptError.{ScriptError}
 use Rattle.zr_script_spec.specs.declared.error.ScriptError.TheVariants.{Limit, NoMemory}
 use Rattle.zr_told_spec.specs.Hub.{HubSends}
-use Rattle.zr_world_spec.specs.World.{Tagged, RouterState, End, Ends, end_of}
+use Rattle.zr_world_spec.specs.World.{Tagged, RouterState}
 use Rattle.zr_world_spec.specs.Acts.{having_told, hub_of, refuses_of}
-use Rattle.zr_world_ends.specs.Steps.{changed_at, returned}
 
 -- what a router's refusal is in a script
 abbrev pub refusal : NodeError → ScriptError
@@ -31,12 +30,10 @@ IsHeard (Ok u) old new event out = (refuses_of old event ≡ None) × (new ≡ h
 IsHeard (Err NoMemory) old new event out = Unit {0}
 IsHeard (Err e) old new event out = (e ≡ Limit) × (is_some (refuses_of old event) ≡ true) × (new ≡ old)
 
--- The router has heard of a message from a link, which is given back, and no end has changed; a message that it refuses is back on the wire
--- to the end, and the router has not changed; where memory ran out nothing is said.
-abbrev pub IsHandled : Result Msg ScriptError → RouterState → RouterState → LinkNo → Tagged → End → Ends → Ends → List (LinkNo × Msg) → Type 0
-IsHandled (Ok msg) old new link x at ends ends' out = (msg ≡ x.msg) × IsHeard (Ok tt) old new (From link x.msg) out × (ends' ≡ ends)
-IsHandled (Err NoMemory) old new link x at ends ends' out = Unit {0}
-IsHandled (Err e) old new link x at ends ends' out = IsHeard (Err e) old new (From link x.msg) out × (ends' ≡ changed_at ends at (λ s. returned s x) (end_of ends at))
+-- The router has heard of a message from a link, which is given back.
+abbrev pub IsHandled : Result Msg ScriptError → RouterState → RouterState → LinkNo → Tagged → List (LinkNo × Msg) → Type 0
+IsHandled (Ok msg) old new link x out = (msg ≡ x.msg) × IsHeard (Ok tt) old new (From link x.msg) out
+IsHandled (Err e) old new link x out = IsHeard (Err e) old new (From link x.msg) out
 
 -- the message that an event brings, if it brings one
 abbrev pub message_of : Event → Option Msg

@@ -1,8 +1,10 @@
 pub mod Fanned
 pub mod Hearing
+pub mod Led
 pub mod Living
 pub mod Messages
 pub mod Search
+pub mod Settled
 pub mod Show
 pub mod State
 pub mod Steps

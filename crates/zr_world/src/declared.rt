@@ -8,9 +8,11 @@ ghost use Rattle.zr_world.specs.Messages.{declaration, withdrawal};
 ghost use Rattle.zr_world.specs.Steps.{Changes, Does};
 
 use crate::router::WorldRouter;
+use crate::sending::send;
 use crate::settled::is_unbroken;
 use crate::tables::WorldTables;
 use std::collections::BTreeMap;
+use zr_carrier::carrier::Carrier;
 use zr_id::zid::Zid;
 use zr_key::key::KeyExpr;
 use zr_msg::content::Content;
@@ -18,9 +20,13 @@ use zr_msg::decl::Kind;
 use zr_msg::msg::Msg;
 use zr_script_spec::error::ScriptError;
 
-impl WorldTables {
+impl<C: Carrier> WorldTables<C> {
     ghost use Rattle.zr_world_spec.specs.World.{is_unbroken};
     ghost use Rattle.zr_world_spec.specs.Acts.{declare_step, undeclare_step, publish_step};
+    ghost use Rattle.std.specs.Prelude.{None};
+    ghost use Rattle.zr_law_sent.specs.Passing.{MayPass};
+    ghost use Rattle.zr_msg.specs.declared.peer.Role.TheVariants.{Client};
+    ghost use Rattle.zr_world.specs.Led.{IsLed};
     ghost use Rattle.zr_world.specs.State.{state_of};
 
     /// A client declares something under an id that is new in its sort.
@@ -33,6 +39,8 @@ impl WorldTables {
         id: u32,
         key: KeyExpr,
     ) -> Result<(), ScriptError>
+        requires led { IsLed (state_of self.old) }
+        requires may { MayPass Client (declaration kind id key) }
         ensures { Does result (declare_step (state_of self.old) line client kind id key (declaration kind id key)) (state_of self.old) (state_of self.new) }
     {
         let Some(c) = self.clients.get_mut(&client) else {
@@ -46,7 +54,7 @@ impl WorldTables {
         }
         weigh(&mut self.routers, &c.router(), key.text().as_bytes())?;
         let msg = declaration(kind, id, key);
-        self.ends.send((c.router(), client), msg, line)?;
+        send(&mut self.ends, (c.router(), client), &msg, line)?;
         c.declare(kind, id)?;
         Ok(())
     }
@@ -60,6 +68,8 @@ impl WorldTables {
         key: KeyExpr,
         complete: bool,
     ) -> Result<(), ScriptError>
+        requires led { IsLed (state_of self.old) }
+        requires may { MayPass Client (Msg.Able id key complete) }
         ensures { Does result (declare_step (state_of self.old) line client (able_kind complete) id key (Msg.Able id key complete)) (state_of self.old) (state_of self.new) }
     {
         let kind = if complete { Kind::Full } else { Kind::Able };
@@ -75,6 +85,8 @@ impl WorldTables {
         kind: Kind,
         id: u32,
     ) -> Result<(), ScriptError>
+        requires led { IsLed (state_of self.old) }
+        requires may { MayPass Client (withdrawal kind id) }
         ensures { Does result (undeclare_step (state_of self.old) line client kind id (withdrawal kind id)) (state_of self.old) (state_of self.new) }
     {
         let Some(c) = self.clients.get_mut(&client) else {
@@ -87,7 +99,7 @@ impl WorldTables {
             return Err(ScriptError::NotLinked);
         }
         let msg = withdrawal(kind, id);
-        self.ends.send((c.router(), client), msg, line)?;
+        send(&mut self.ends, (c.router(), client), &msg, line)?;
         c.undeclare(kind, id);
         Ok(())
     }
@@ -95,6 +107,8 @@ impl WorldTables {
     /// A client publishes a sample. On its link no tree is named.
     #[tactic(auto, unfolding(zr_world_spec::specs::Acts::publish_step, zr_world_spec::specs::Acts::client_sends))]
     pub fn publish(&mut self, line: u64, client: Zid, content: Content) -> Result<(), ScriptError>
+        requires led { IsLed (state_of self.old) }
+        requires may { MayPass Client (Msg.Push None content) }
         ensures { Does result (publish_step (state_of self.old) line client content) (state_of self.old) (state_of self.new) }
     {
         let Some(c) = self.clients.get(&client) else {
@@ -104,9 +118,11 @@ impl WorldTables {
         if !is_unbroken(&self.ends, (router, client)) {
             return Err(ScriptError::NotLinked);
         }
-        let tree = None;
-        self.ends
-            .send((router, client), Msg::Push { tree, content }, line)?;
+        let msg = Msg::Push {
+            tree: None,
+            content,
+        };
+        send(&mut self.ends, (router, client), &msg, line)?;
         Ok(())
     }
 }

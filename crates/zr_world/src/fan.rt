@@ -1,8 +1,6 @@
 //! A fan: all samples under way go to their ends, round by round, the routers of a round being handled by a gang.
 
-ghost use Rattle.std.specs.Prelude.{◌≡◌, ◌∷◌, ◌-◌, ◌^◌, ◌||◌, [], true, Ok, IfOk, OnOk, OnErr, length, min};
-ghost use Rattle.std.specs.List.{sum_by};
-ghost use Rattle.zr_world_spec.specs.Fan.{sample_bytes, waiting_at};
+ghost use Rattle.std.specs.Prelude.{◌≡◌, ◌∷◌, ◌||◌, [], true, Ok, IfOk, OnOk, OnErr};
 ghost use Rattle.zr_world.specs.Fanned.{AreTaken};
 ghost use Rattle.zr_world.specs.Steps.{AppliesTo};
 
@@ -12,10 +10,10 @@ use std::alloc::{AllocError, Global};
 use std::collections::BTreeMap;
 use std::mem;
 use std::thread::Threads;
+use zr_carrier::carrier::Carrier;
 use zr_id::zid::Zid;
 use zr_script_spec::error::ScriptError;
 use zr_script_spec::report::ReportLine;
-use zr_world_ends::end::WorldEnd;
 use zr_world_gang::gang::Gang;
 use zr_world_gang::share::Share;
 use zr_world_rounds::fan::fan;
@@ -26,7 +24,7 @@ const MOST_FANNED: u64 = 2000;
 /// How many bytes their keys and bodies have together at most.
 const MOST_FANNED_BYTES: u64 = 1_048_576;
 
-impl WorldTables {
+impl<C: Carrier> WorldTables<C> {
     ghost use Rattle.zr_world_spec.specs.Fan.{are_samples, are_many, are_long};
     ghost use Rattle.zr_world_spec.specs.Next.{fan_done, fan_step};
     ghost use Rattle.zr_world_spec.specs.Sound.{IsSound};
@@ -91,7 +89,7 @@ impl WorldTables {
     fn has_samples(&self) -> bool
         ensures { result ≡ are_samples (state_of self.now) }
     {
-        self.ends.list().iter().all(|(_, end)| end.has_samples())
+        self.ends.have_samples()
     }
 
     // Whether more is under way than a fan takes.
@@ -106,7 +104,7 @@ impl WorldTables {
     fn are_many(&self) -> bool
         ensures { result ≡ are_many (state_of self.now) }
     {
-        count(self.ends.list()) > MOST_FANNED
+        self.ends.count() > MOST_FANNED
     }
 
     // Whether their keys and bodies have more bytes than a fan takes.
@@ -114,7 +112,7 @@ impl WorldTables {
     fn are_long(&self) -> bool
         ensures { result ≡ are_long (state_of self.now) }
     {
-        sample_bytes(self.ends.list()) > MOST_FANNED_BYTES
+        self.ends.sample_bytes() > MOST_FANNED_BYTES
     }
 
     // The samples that are under way go to their ends, and the line that tells it.
@@ -182,26 +180,4 @@ fn shares_of(
         weights.push(weight)?;
     }
     Ok((shares, weights))
-}
-
-// How many messages wait at some ends: at most 2^64 - 1.
-fn count(ends: &[((Zid, Zid), WorldEnd)]) -> u64
-    ensures { result ≡ min (sum_by (λ e. length (waiting_at e.1)) ends.now) (2 ^ 64 - 1) }
-{
-    let mut sum: u64 = 0;
-    for named in ends {
-        sum = sum.saturating_add(named.1.count());
-    }
-    sum
-}
-
-// How many bytes the keys and the bodies of the samples have that wait at some ends: at most 2^64 - 1.
-fn sample_bytes(ends: &[((Zid, Zid), WorldEnd)]) -> u64
-    ensures { result ≡ min (sum_by (λ e. sum_by (λ m. sample_bytes m.msg) (waiting_at e.1)) ends.now) (2 ^ 64 - 1) }
-{
-    let mut sum: u64 = 0;
-    for named in ends {
-        sum = sum.saturating_add(named.1.sample_bytes());
-    }
-    sum
 }

@@ -11,9 +11,10 @@ ghost use Rattle.zr_graph.specs.Record.{has};
 
 use crate::tables::WorldTables;
 use std::alloc::AllocError;
+use zr_carrier::carrier::Carrier;
 use zr_id::zid::Zid;
 
-impl WorldTables {
+impl<C: Carrier> WorldTables<C> {
     ghost use Rattle.zr_tree.specs.Laws.{IsGraph};
     ghost use Rattle.zr_world_spec.specs.World.{is_linked};
     ghost use Rattle.zr_world_spec.specs.Joined.{graph, is_joined};

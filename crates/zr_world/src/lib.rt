@@ -11,6 +11,7 @@ mod joined;
 mod marks;
 mod members;
 mod router;
+mod sending;
 mod settled;
 mod spread;
 mod steps;

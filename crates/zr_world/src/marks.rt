@@ -8,6 +8,7 @@ ghost use Rattle.zr_world.specs.Steps.{AppliesTo};
 
 use crate::tables::WorldTables;
 use std::alloc::{AllocError, Global};
+use zr_carrier::carrier::Carrier;
 use zr_graph::base::Base;
 use zr_id::record::LinkRecord;
 use zr_id::zid::Zid;
@@ -18,7 +19,7 @@ use zr_script_spec::error::ScriptError;
 use zr_script_spec::report::ReportLine;
 use zr_tree::trees::Trees;
 
-impl WorldTables {
+impl<C: Carrier> WorldTables<C> {
     ghost use Rattle.zr_world_spec.specs.Acts.{mark_step, show_step};
     ghost use Rattle.zr_world_spec.specs.Sound.{IsSound};
     ghost use Rattle.zr_world.specs.State.{state_of};

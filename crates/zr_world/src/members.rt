@@ -9,10 +9,10 @@ use crate::router::WorldRouter;
 use crate::settled::is_unbroken;
 use crate::spread::spread;
 use crate::tables::WorldTables;
+use zr_carrier::carrier::Carrier;
 use zr_id::zid::Zid;
 use zr_msg::peer::{Peer, Role, Weight};
 use zr_script_spec::error::ScriptError;
-use zr_world_ends::end::WorldEnd;
 use zr_world_ends::ends::Ends;
 
 /// How many routers a world has at most, all that ever came.
@@ -24,7 +24,7 @@ const MOST_CLIENTS: usize = 1024;
 /// How many links between routers are in place at most.
 const MOST_LINKS: usize = 512;
 
-impl WorldTables {
+impl<C: Carrier> WorldTables<C> {
     ghost use Rattle.zr_world_spec.specs.Acts.{router_step, client_step, link_step, up_step, break_step, down_step};
     ghost use Rattle.zr_world_spec.specs.Sound.{IsSound};
     ghost use Rattle.zr_world.specs.State.{state_of};
@@ -68,9 +68,7 @@ impl WorldTables {
             weight: 1,
         };
         r.hear_up(self.alloc, peer, &mut self.out)?;
-        let mut end = WorldEnd::new(self.alloc, Weight::one());
-        end.lift();
-        self.ends.put((router, id), end)?;
+        self.ends.put_client(self.alloc, router, id)?;
         spread(r, router, &mut self.ends, &mut self.out, line)?;
         drop(self.clients.insert(id, Client::new(self.alloc, router))?); // none was there
         Ok(())
@@ -93,10 +91,7 @@ impl WorldTables {
         if self.links_in_place() >= MOST_LINKS {
             return Err(ScriptError::Limit);
         }
-        let end = WorldEnd::new(self.alloc, weight);
-        self.ends.put((one, other), end)?;
-        let end = WorldEnd::new(self.alloc, weight);
-        self.ends.put((other, one), end)?;
+        self.ends.put_link(self.alloc, one, other, weight)?;
         Ok(())
     }
 
@@ -141,8 +136,7 @@ impl WorldTables {
         if !is_unbroken(&self.ends, (router, neighbour)) {
             return Err(ScriptError::NotLinked);
         }
-        self.ends.break_off((router, neighbour));
-        self.ends.break_off((neighbour, router));
+        self.ends.break_link(router, neighbour);
         Ok(())
     }
 
@@ -176,7 +170,7 @@ impl WorldTables {
 }
 
 // What the link of an end weighs for its router, where the end is there.
-fn weight_at(ends: &Ends, at: (Zid, Zid)) -> Weight
+fn weight_at<C: Carrier>(ends: &Ends<C>, at: (Zid, Zid)) -> Weight
     ensures { (s : EndState) → end_of ends.now at ≡ Some s → result ≡ s.weight }
 {
     match ends.get(at) {

@@ -4,13 +4,17 @@ ghost use Rattle.std.specs.Prelude.{◌≡◌, length};
 ghost use Rattle.zr_world_spec.specs.World.{is_unbroken};
 
 use crate::tables::WorldTables;
+use zr_carrier::carrier::Carrier;
 use zr_id::zid::Zid;
 use zr_world_ends::end::WorldEnd;
 use zr_world_ends::ends::Ends;
 
-impl WorldTables {
+impl<C: Carrier> WorldTables<C> {
     ghost use Rattle.std.specs.Prelude.{◌&&◌};
-    ghost use Rattle.zr_world_spec.specs.World.{is_up, is_linked, is_in_place, is_first_end, links_in_place, is_met, is_settled};
+    ghost use Rattle.std.specs.List.{list_all};
+    ghost use Rattle.zr_world_spec.specs.World.{is_up, is_linked, is_in_place, is_first_end, links_in_place, is_settled};
+    ghost use Rattle.zr_world_ends.specs.Kept.{is_calm_end};
+    ghost use Rattle.zr_world.specs.Settled.{is_kept_met};
     ghost use Rattle.zr_world.specs.State.{state_of};
 
     /// Whether the router's end to the neighbour is up.
@@ -58,21 +62,25 @@ impl WorldTables {
     pub fn is_settled(&self) -> bool
         ensures { result ≡ is_settled (state_of self.now) }
     {
-        self.ends
-            .list()
-            .iter()
+        self.are_settled(self.ends.list())
+    }
+
+    fn are_settled(&self, ends: &[((Zid, Zid), WorldEnd)]) -> bool
+        ensures { result ≡ list_all (λ x. is_kept_met (state_of self.now) x.0 x.1 && is_calm_end x.1) ends.now }
+    {
+        ends.iter()
             .all(|(at, end)| self.is_met(at, end) && end.is_calm())
     }
 
     fn is_met(&self, at: &(Zid, Zid), end: &WorldEnd) -> bool
-        ensures { result ≡ is_met (state_of self.now) at.now end.now }
+        ensures { result ≡ is_kept_met (state_of self.now) at.now end.now }
     {
         !end.is_up() || (end.is_unbroken() && (!self.is_router(&at.1) || self.is_up(at.1, at.0)))
     }
 }
 
 /// Whether the link of an end is unbroken, where the end is there.
-pub(crate) fn is_unbroken(ends: &Ends, at: (Zid, Zid)) -> bool
+pub(crate) fn is_unbroken<C: Carrier>(ends: &Ends<C>, at: (Zid, Zid)) -> bool
     ensures { result ≡ is_unbroken ends.now at }
 {
     match ends.get(at) {

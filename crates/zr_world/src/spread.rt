@@ -5,16 +5,17 @@ ghost use Rattle.zr_world_ends.specs.Spread.{queued_on, all_queued_on};
 
 use crate::router::WorldRouter;
 use std::alloc::AllocError;
+use zr_carrier::carrier::Carrier;
 use zr_id::link::LinkNo;
 use zr_id::zid::Zid;
 use zr_msg::msg::Msg;
 use zr_world_ends::ends::Ends;
 
 /// Each message is queued for the neighbour of its link. The list of them is empty then, and keeps its memory.
-pub fn spread(
+pub fn spread<C: Carrier>(
     router: &WorldRouter,
     name: Zid,
-    ends: &mut Ends,
+    ends: &mut Ends<C>,
     out: &mut Vec<(LinkNo, Msg)>,
     tag: u64,
 ) -> Result<(), AllocError>
@@ -26,10 +27,10 @@ pub fn spread(
     Ok(())
 }
 
-fn enqueue(
+fn enqueue<C: Carrier>(
     router: &WorldRouter,
     name: Zid,
-    ends: &mut Ends,
+    ends: &mut Ends<C>,
     link: LinkNo,
     msg: Msg,
     tag: u64,

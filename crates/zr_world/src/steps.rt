@@ -1,18 +1,21 @@
 //! Messages move on: a router handles one, or one is taken from its queue.
 
-ghost use Rattle.std.specs.Prelude.{◌≡◌, if◌then◌else◌, false, is_some, Some, IsSome, OnOk};
+ghost use Rattle.std.specs.Prelude.{◌≡◌, if◌then◌else◌, false, true, is_some, Some, IsSome, OnOk};
 ghost use Rattle.zr_world_spec.specs.Acts.{received};
 ghost use Rattle.zr_world_spec.specs.World.{changed, client_of, end_of, sent};
 ghost use Rattle.zr_node_spec.specs.Event.{MayCome};
 ghost use Rattle.zr_world.specs.Hearing.{IsHandled, message_of};
+ghost use Rattle.zr_world.specs.Led.{MayGoTo};
 ghost use Rattle.zr_world.specs.Steps.{AppliesTo};
 
 use crate::client::Client;
 use crate::router::WorldRouter;
+use crate::sending::send;
 use crate::spread::spread;
 use crate::tables::WorldTables;
 use std::alloc::{AllocError, Global};
 use std::collections::BTreeMap;
+use zr_carrier::carrier::Carrier;
 use zr_id::link::LinkNo;
 use zr_id::zid::Zid;
 use zr_msg::event::Event;
@@ -22,13 +25,13 @@ use zr_script_spec::report::ReportLine;
 use zr_world_ends::end::Tagged;
 use zr_world_ends::ends::Ends;
 
-impl WorldTables {
+impl<C: Carrier> WorldTables<C> {
     ghost use Rattle.zr_world_spec.specs.World.{is_taken, router_of};
     ghost use Rattle.zr_world_spec.specs.Acts.{handle_step, take_step};
-    ghost use Rattle.zr_world_spec.specs.Sound.{IsSound};
+    ghost use Rattle.zr_world.specs.Led.{IsLed};
     ghost use Rattle.zr_world.specs.State.{state_of};
 
-    /// A router handles the oldest message on the wire from a neighbour. What it sends has that message's tag.
+    /// A router handles the oldest message on the wire from a neighbour. What it sends has that message's tag. It refuses none.
     // A router has a link to just the neighbours to which its end is up, so who has none need not be asked for first.
     pub fn handle(
         &mut self,
@@ -36,7 +39,7 @@ impl WorldTables {
         from: Zid,
         report: &mut Vec<ReportLine>,
     ) -> Result<(), ScriptError>
-        requires { IsSound (state_of self.old) }
+        requires { IsLed (state_of self.old) }
         ensures { AppliesTo result (handle_step (state_of self.old) router from) (state_of self.old) (state_of self.new) report.old.items report.new.items }
     {
         let Some(r) = self.routers.get_mut(&router) else {
@@ -47,8 +50,7 @@ impl WorldTables {
         };
         let x = self.ends.next_sent((router, from))?;
         let tag = x.tag;
-        let at = (router, from);
-        let msg = hear_message(self.alloc, r, link, x, at, &mut self.ends, &mut self.out)?;
+        let msg = hear_message(self.alloc, r, link, x, &mut self.out)?;
         spread(r, router, &mut self.ends, &mut self.out, tag)?;
         report.push(ReportLine::Handled {
             router,
@@ -67,7 +69,7 @@ impl WorldTables {
         to: Zid,
         report: &mut Vec<ReportLine>,
     ) -> Result<(), ScriptError>
-        requires { IsSound (state_of self.old) }
+        requires { IsLed (state_of self.old) }
         ensures { AppliesTo result (take_step (state_of self.old) router to) (state_of self.old) (state_of self.new) report.old.items report.new.items }
     {
         let x = match self.ends.next_queued((router, to)) {
@@ -77,7 +79,6 @@ impl WorldTables {
         let tag = x.tag;
         let is_router = self.is_router(&to);
         deliver(
-            self.alloc,
             &mut self.ends,
             &mut self.clients,
             is_router,
@@ -117,64 +118,56 @@ impl WorldTables {
     }
 }
 
-// A router hears of a message that has left the wire to its end. One that it refuses is back there.
+// A router hears of a message that has left the wire to its end.
 fn hear_message(
     alloc: Global,
     router: &mut WorldRouter,
     link: LinkNo,
     x: Tagged,
-    at: (Zid, Zid),
-    ends: &mut Ends,
     out: &mut Vec<(LinkNo, Msg)>,
 ) -> Result<Msg, ScriptError>
     requires { MayCome router.old.node (Event.From link x.msg) }
-    ensures { IsHandled result router.old router.new link x at ends.old ends.new out.new.items }
+    ensures { IsHandled result router.old router.new link x out.new.items }
 {
-    let tag = x.tag;
     let event = Event::From { link, msg: x.msg };
-    let heard = router.hear(alloc, &event, out);
-    let msg = message_of(event);
-    match heard {
-        Ok(()) => Ok(msg),
-        Err(refusal) => {
-            ends.put_back(at, Tagged { msg, tag })?;
-            Err(refusal)
-        }
+    match router.hear(alloc, &event, out) {
+        Ok(()) => Ok(message_of(event)),
+        Err(e) => Err(e),
     }
 }
 
 // A message goes to a neighbour, of which the router's end is the one named: onto the wire if it is a router, else to the client itself.
-fn deliver(
-    alloc: Global,
-    ends: &mut Ends,
+fn deliver<C: Carrier>(
+    ends: &mut Ends<C>,
     clients: &mut BTreeMap<Zid, Client>,
     is_router: bool,
     at: (Zid, Zid),
     msg: &Msg,
     tag: u64,
 ) -> Result<(), AllocError>
-    requires { is_router ≡ false → is_some (end_of ends.old at) ≡ false }
+    requires client { is_router ≡ false → is_some (end_of ends.old at) ≡ false }
+    requires router { is_router ≡ true → MayGoTo ends.old at msg.now }
     ensures wire { OnOk result (ends.new ≡ changed ends.old at (λ s. sent s msg.now tag)) }
     ensures client { OnOk result (clients.new.entries ≡ received clients.old.entries at.0 msg.now (client_of clients.old.entries at.0)) }
 {
-    pass_on(alloc, ends, is_router, at, msg, tag)?;
+    pass_on(ends, is_router, at, msg, tag)?;
     receive(clients, &at.0, msg)
 }
 
-// A copy of a message comes onto the wire to the end of a router. A client has no end of its own, so none is looked for.
-fn pass_on(
-    alloc: Global,
-    ends: &mut Ends,
+// A message comes onto the wire to the end of a router. A client has no end of its own, so none is looked for.
+fn pass_on<C: Carrier>(
+    ends: &mut Ends<C>,
     is_router: bool,
     at: (Zid, Zid),
     msg: &Msg,
     tag: u64,
 ) -> Result<(), AllocError>
-    requires { is_router ≡ false → is_some (end_of ends.old at) ≡ false }
+    requires client { is_router ≡ false → is_some (end_of ends.old at) ≡ false }
+    requires router { is_router ≡ true → MayGoTo ends.old at msg.now }
     ensures { OnOk result (ends.new ≡ changed ends.old at (λ s. sent s msg.now tag)) }
 {
     if is_router {
-        return ends.send_copy(alloc, at, msg, tag);
+        return send(ends, at, msg, tag);
     }
     Ok(())
 }

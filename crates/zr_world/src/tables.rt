@@ -7,6 +7,7 @@ use crate::client::Client;
 use crate::router::WorldRouter;
 use std::alloc::Global;
 use std::collections::BTreeMap;
+use zr_carrier::carrier::Carrier;
 use zr_id::link::LinkNo;
 use zr_id::zid::Zid;
 use zr_msg::decl::Kind;
@@ -22,32 +23,33 @@ const MOST_STEPS: u64 = 10_000_000;
 
 /// Routers, clients and ends by name, and how many steps all runs so far asked for.
 #[derive(Drop)]
-pub struct WorldTables {
+pub struct WorldTables<C: Carrier> {
     pub alloc: Global,
     pub routers: BTreeMap<Zid, WorldRouter>,
     pub clients: BTreeMap<Zid, Client>,
-    pub ends: Ends,
+    pub ends: Ends<C>,
     pub booked: u64,
     /// What a router has just sent, on its way into the queues. It is kept for its memory alone.
     pub out: Vec<(LinkNo, Msg)>,
 }
 
-impl WorldTables {
+impl<C: Carrier> WorldTables<C> {
     ghost use Rattle.zr_world_spec.specs.World.{empty_world, router_of, is_taken};
     ghost use Rattle.zr_world_spec.specs.Acts.{outcome, peer_of};
     ghost use Rattle.zr_world_spec.specs.Next.{next, book_step};
-    ghost use Rattle.zr_world_spec.specs.Sound.{IsSound};
+    ghost use Rattle.zr_law_calls.specs.Fitting.{IsFit};
+    ghost use Rattle.zr_world.specs.Led.{IsLed};
     ghost use Rattle.zr_world.specs.State.{state_of};
 
     /// WorldTables in which nothing has come yet.
-    pub fn new(alloc: Global) -> WorldTables
+    pub fn new(alloc: Global, carrier: C) -> WorldTables<C>
         ensures { state_of result ≡ empty_world }
     {
         WorldTables {
             alloc,
             routers: BTreeMap::new(alloc),
             clients: BTreeMap::new(alloc),
-            ends: Ends::new(alloc),
+            ends: Ends::new(alloc, carrier),
             booked: 0,
             out: Vec::new(alloc),
         }
@@ -61,7 +63,8 @@ impl WorldTables {
         act: Act,
         report: &mut Vec<ReportLine>,
     ) -> Result<(), ScriptError>
-        requires { IsSound (state_of self.old) }
+        requires led { IsLed (state_of self.old) }
+        requires fit { IsFit act }
         ensures { AppliesTo result (outcome (state_of self.old) line act) (state_of self.old) (state_of self.new) report.old.items report.new.items }
     {
         match act {

@@ -6,6 +6,7 @@ ghost use Rattle.zr_world_spec.specs.Fan.{are_many, are_long};
 ghost use Rattle.zr_world_spec.specs.Next.{next, book_step, fan_step};
 ghost use Rattle.zr_world_spec.specs.Sound.{IsSound};
 ghost use Rattle.zr_world_spec.specs.World.{router_of};
+ghost use Rattle.zr_law_calls.specs.Fitting.{IsFit};
 ghost use Rattle.zr_law_numbers.specs.Calls.{most_commands};
 ghost use Rattle.zr_world.specs.Living.{Applies, Books, IsPassed, IsPossible, new_world};
 ghost use Rattle.zr_world.specs.Steps.{is_out_of_memory};
@@ -14,6 +15,8 @@ use crate::tables::WorldTables;
 use std::alloc::Global;
 use std::marker::Model;
 use std::thread::Threads;
+use zr_carrier::carrier::Carrier;
+use zr_carrier::plain::Plain;
 use zr_id::zid::Zid;
 use zr_script_spec::command::Act;
 use zr_script_spec::error::ScriptError;
@@ -24,14 +27,14 @@ use zr_world_gang::gang::Gang;
 const MOST_COMMANDS: u64 = 100_000_000;
 
 /// The routers and clients of a script, and the ends of their links with what waits there.
-pub struct World {
-    tables: WorldTables,
+pub struct World<C: Carrier> {
+    tables: WorldTables<C>,
     applied: u64,
     spent: bool,
 }
 
 // Written out, so that it is proved here, and not by each crate that lets one go.
-impl Drop for World {
+impl<C: Carrier> Drop for World<C> {
     fn drop(self) {
         let Self {
             tables: _tables,
@@ -41,7 +44,7 @@ impl Drop for World {
     }
 }
 
-impl Model for World {
+impl<C: Carrier> Model for World<C> {
     ghost use Rattle.std.specs.Prelude.{◌≡◌, false};
     ghost use Rattle.zr_law_calls.specs.Reached.{IsReached};
     ghost use Rattle.zr_world.specs.Living.{Living};
@@ -54,13 +57,22 @@ impl Model for World {
     ghost invariant = { λ w. w.spent ≡ false → IsReached (state_of w.tables) w.applied };
 }
 
-impl World {
-    /// A world in which nothing has come yet.
-    pub fn new(alloc: Global) -> World
+impl World<Plain> {
+    /// A world in which nothing has come yet, with messages on its wires as they are.
+    pub fn new(alloc: Global) -> World<Plain>
+        ensures { result ≡ new_world }
+    {
+        World::over(alloc, Plain::new(alloc))
+    }
+}
+
+impl<C: Carrier> World<C> {
+    /// A world in which nothing has come yet, with a carrier for the messages on its wires.
+    pub fn over(alloc: Global, carrier: C) -> World<C>
         ensures { result ≡ new_world }
     {
         World {
-            tables: WorldTables::new(alloc),
+            tables: WorldTables::new(alloc, carrier),
             applied: 0,
             spent: false,
         }
@@ -96,7 +108,7 @@ impl World {
         self.tables.book(steps)
     }
 
-    /// Does an act of a line, and appends what is reported of it.
+    /// Does an act of a line, and appends what is reported of it. What a client sends by it may be passed on; lines ask for no other acts.
     ///
     /// A refusal is the first that applies, and leaves the world as it was: `BadWords` of a link from a router to itself, `UnknownName`,
     /// `NameTaken`, `NotLinked`, `AlreadyLinked`, `NothingThere`, `NotAsked`, `NotSettled`, `NotJoined`, `Limit`. `Limit` comes only where the act would
@@ -108,6 +120,7 @@ impl World {
         act: Act,
         report: &mut Vec<ReportLine>,
     ) -> Result<(), ScriptError>
+        requires { IsFit act }
         ensures applies { self.old.spent ≡ false → self.old.applied < most_commands → Applies result (outcome self.old.state line act) (self.old.applied + 1) self.old self.new report.old.items report.new.items }
         ensures full { self.old.spent ≡ false → most_commands ≤ self.old.applied → (result ≡ Err ScriptError.Limit) × (self.new ≡ self.old) × (report.new.items ≡ report.old.items) }
         ensures limits { result ≡ Err ScriptError.Limit → IsPassed self.old act }

@@ -6,7 +6,7 @@ use Rattle.zr_world.specs.State.{state_of}
 use Rattle.zr_world.proofs.tables.WorldTables.are_found.Given as goal
 
 abbrev pub invariant-search : goal.invariant-search
-invariant-search l = IsSearched (state_of l.self) l.fn.root l.found.items l.missing.items
+invariant-search g l = IsSearched (state_of l.self) l.fn.root l.found.items l.missing.items
 
 abbrev pub decreases-search : goal.decreases-search
-decreases-search l = length l.missing.items + min 1 (length l.found.items)
+decreases-search g l = length l.missing.items + min 1 (length l.found.items)

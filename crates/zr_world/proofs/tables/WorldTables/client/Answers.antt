@@ -2,7 +2,7 @@ use Rattle.std.proofs.Common.{◌≡◌, true, false, [], Ok, Some, sym, ap, ◌
 use Rattle.std.proofs.lemmas.Map.Steps.{set_value_same}
 use Rattle.std.proofs.lemmas.Result.{err_from_is_err_and}
 use Rattle.zr_id.specs.Zid.{is_named}
-use Rattle.std.specs.Prelude.{nat_le, length}
+use Rattle.std.specs.Prelude.{is_some, nat_le, length}
 use Rattle.std.specs.Ordering.{nat_cmp}
 use Rattle.std.specs.Cmp.Lexicographic.{slice_cmp}
 use Rattle.std.specs.BTreeMap.{insert_entry}
@@ -16,18 +16,19 @@ use Rattle.zr_world.specs.Hearing.{IsHeard}
 use Rattle.zr_world_ends.specs.Spread.{all_queued_on}
 use Rattle.zr_world.specs.State.{state_of}
 use Rattle.zr_world.proofs.Events.{fresh_client}
+use Rattle.zr_world.proofs.Going.{client_apart, client_alone}
 use Rattle.zr_world.proofs.Moving.{hears_is, client_by}
 use Rattle.zr_world.proofs.Refusing.{client_taken, client_refused}
 use Rattle.zr_world.proofs.tables.WorldTables.client.Goals as goal
 
 pub hear_up-requires : goal.hear_up-requires
-hear_up-requires c =
+hear_up-requires g c =
     let er : router_of (state_of c.args.self.now).routers c.args.router ≡ Some c.in-Some.r.now = search rules in
     let new : is_taken (state_of c.args.self.now) c.args.id ≡ false = sym c.is_taken-is_taken.ensures ∙ c.if-is_taken.false in
     fresh_client (state_of c.args.self.now) c.requires c.args.router c.in-Some.r.now er (record { id = c.args.id; role = role.Client; weight = 1 }) new
 
 pub returns : goal.returns
-returns c =
+returns g c =
     let w = state_of c.args.self.now in
     let r = c.in-Some.r.now in
     let r' = c.hear_up.new.self in
@@ -36,10 +37,8 @@ returns c =
     let new : is_taken (state_of c.args.self.now) c.args.id ≡ false = sym c.is_taken-is_taken.ensures ∙ c.if-is_taken.false in
     let few : nat_le most_clients (length (state_of c.args.self.now).clients) ≡ false = grind (arith, nat_tests, c.len-count.ensures.len) in
     let heard : IsHeard (Ok tt) c.in-Some.r.now c.hear_up.new.self (up_event c.in-Some.r.now peer) c.hear_up.new.out.items = c.in_ok-hear_up.ensures in
-    let end : c.lift.new.self ≡ lifted (new_end 1) = c.lift.ensures ∙ ap lifted (c.new-end.ensures ∙ ap new_end c.one.ensures) in
     let es : Ends = put_end w.ends (c.args.router, c.args.id) (lifted (new_end 1)) in
-    let put : c.put.new.self ≡ put_end c.args.self.now.ends (c.args.router, c.args.id) (lifted (new_end 1)) =
-    c.in_ok-put.ensures ∙ ap (λ (s : EndState). put_end c.args.self.now.ends (c.args.router, c.args.id) s) end in
+    let put : c.put_client.new.self ≡ put_end c.args.self.now.ends (c.args.router, c.args.id) (lifted (new_end 1)) = c.in_ok-put_client.ensures in
     let spread : c.spread.new.ends ≡ all_queued_on c.hear_up.new.self.node.links es c.args.router c.hear_up.new.out.items c.args.line =
     c.in_ok-spread.ensures ∙ ap (λ (z : Ends). all_queued_on c.hear_up.new.self.node.links z c.args.router c.hear_up.new.out.items c.args.line) put in
     let lent : (c.get_mut.follows.lender c.hear_up.new.self).entries ≡ with_router c.args.self.now.routers.entries c.args.router c.hear_up.new.self = search rules in
@@ -52,7 +51,7 @@ returns c =
     ∙ (λ i. Ok ([], record { routers = sym lent i; clients = sym clients i; ends = c.spread.new.ends; booked = c.args.self.now.booked }))
 
 pub returns-then-is_taken : goal.returns-then-is_taken
-returns-then-is_taken c =
+returns-then-is_taken g c =
     let w = state_of c.args.self.now in
     let er : router_of (state_of c.args.self.now).routers c.args.router ≡ Some c.in-Some.r.now = search rules in
     let et : is_taken (state_of c.args.self.now) c.args.id ≡ true = sym c.is_taken-is_taken.ensures ∙ c.if-is_taken.true in
@@ -60,7 +59,7 @@ returns-then-is_taken c =
     (client_taken w c.args.line c.args.id c.args.router c.in-Some.r.now er et, λ i. record { routers = back i; clients = c.args.self.now.clients.entries; ends = c.args.self.now.ends; booked = c.args.self.now.booked })
 
 pub returns-in_err-hear_up : goal.returns-in_err-hear_up
-returns-in_err-hear_up c =
+returns-in_err-hear_up g c =
     let w = state_of c.args.self.now in
     let p = err_from_is_err_and c.from_residual.result c.from_residual.ensures.1 in
     let er : router_of (state_of c.args.self.now).routers c.args.router ≡ Some c.in-Some.r.now = search rules in
@@ -75,3 +74,14 @@ returns-in_err-hear_up c =
       ends = c.args.self.now.ends;
       booked = c.args.self.now.booked;
     }))
+
+pub put_client-requires-clause-apart : goal.put_client-requires-clause-apart
+put_client-requires-clause-apart g c =
+    let er : router_of (state_of c.args.self.now).routers c.args.router ≡ Some c.in-Some.r.now = search rules in
+    let new : is_taken (state_of c.args.self.now) c.args.id ≡ false = sym c.is_taken-is_taken.ensures ∙ c.if-is_taken.false in
+    client_apart (state_of c.args.self.now) c.args.router c.args.id (ap is_some er) new
+
+pub put_client-requires-clause-none : goal.put_client-requires-clause-none
+put_client-requires-clause-none g c =
+    let new : is_taken (state_of c.args.self.now) c.args.id ≡ false = sym c.is_taken-is_taken.ensures ∙ c.if-is_taken.false in
+    client_alone (state_of c.args.self.now) c.args.router c.args.id c.requires new

@@ -4,6 +4,8 @@ use Rattle.std.proofs.lemmas.Iterator.{YieldsList-from_slice}
 use Rattle.std.proofs.lemmas.Iterator.Consumers.{count_from_yields_List, YieldsList-from_filter}
 use Rattle.std.specs.Map.{keys_of}
 use Rattle.zr_world_spec.specs.World.{End, EndState, is_first_end, is_in_place}
+use Rattle.zr_world_ends.specs.Kept.{KeptEnd, kept as one_kept, kept_ends}
+use Rattle.zr_world_ends.proofs.Same.{keys_mapped}
 use Rattle.zr_world.specs.State.{state_of}
 use Rattle.zr_world.proofs.tables.WorldTables.links_in_place.Goals as goal
 
@@ -18,11 +20,12 @@ length_by_key {K} {X} p (e ∷ es) = by (p e.0) (length_by_key p es)
     by false ih = ih
 
 pub returns : goal.returns
-returns c =
+returns g c =
     let w = state_of c.args.self.now in
-    let kept : c.count.result ≡ length (filter (λ (e : End × EndState). is_first_end w.routers e.0 && is_in_place w.ends e.0) w.ends) =
+    let kept : c.count.result ≡ length (filter (λ (e : End × KeptEnd). is_first_end w.routers e.0 && is_in_place w.ends e.0) (kept_ends w.ends)) =
     count_from_yields_List c.filter.result _ c.count.ensures.ran
-    (YieldsList-from_filter {s = c.filter.result} _ (λ (e : End × EndState). is_first_end w.routers e.0 && is_in_place w.ends e.0)
-    (YieldsList-from_slice {s = c.filter.result.iter} w.ends (ap (λ s. s.rest.now) c.filter.ensures.source ∙ c.iter.ensures.rest ∙ c.list.ensures))
+    (YieldsList-from_filter {s = c.filter.result} _ (λ (e : End × KeptEnd). is_first_end w.routers e.0 && is_in_place w.ends e.0)
+    (YieldsList-from_slice {s = c.filter.result.iter} (kept_ends w.ends) (ap (λ s. s.rest.now) c.filter.ensures.source ∙ c.iter.ensures.rest ∙ c.list.ensures))
     c.filter.ensures.closure (λ x b q k. search (rules, tests))) in
-    kept ∙ length_by_key (λ (k : End). is_first_end w.routers k && is_in_place w.ends k) w.ends
+    kept ∙ length_by_key (λ (k : End). is_first_end w.routers k && is_in_place w.ends k) (kept_ends w.ends)
+    ∙ ap (λ (ks : List End). length (filter (λ k. is_first_end w.routers k && is_in_place w.ends k) ks)) (keys_mapped (λ (e : End) (s : EndState). one_kept s) w.ends)

@@ -6,6 +6,6 @@ use Rattle.zr_world.proofs.Searching.{kept_more}
 use Rattle.zr_world.proofs.tables.WorldTables.near.Goals as goal
 
 pub loop-y-preserved : goal.loop-y-preserved
-loop-y-preserved c =
+loop-y-preserved g c =
     let lt : c.loop-y.y-index < length c.args.missing.now = omega arith in
     kept_more (λ y. list_any (λ x. is_linked (state_of c.args.self.now).ends x y) c.args.found.now) c.args.missing.now c.loop-y.near.items c.keep_if.new.kept.items _ c.loop-y.y-index c.y-item.result c.is_near.result lt c.y-item.is (sym c.is_near.ensures) c.in_ok-keep_if.ensures c.loop-y.invariant

@@ -6,5 +6,5 @@ use Rattle.zr_world.specs.State.{state_of}
 use Rattle.zr_world.proofs.tables.WorldTables.near.Given as goal
 
 abbrev pub invariant-loop-y : goal.invariant-loop-y
-invariant-loop-y l =
+invariant-loop-y g l =
     l.near.items ++ filter (λ y. list_any (λ x. is_linked (state_of l.self).ends x y) l.found) (drop l.y-index l.missing) ≡ filter (λ y. list_any (λ x. is_linked (state_of l.self).ends x y) l.found) l.missing

@@ -12,7 +12,7 @@ use Rattle.zr_world.proofs.Fanning.{ArePut, none_put, one_put, all_put, router_w
 use Rattle.zr_world.proofs.tables.WorldTables.put_routers.Goals as goal
 
 pub loop-share-init : goal.loop-share-init
-loop-share-init c =
+loop-share-init g c =
     let ss = into_iter_items c.into_iter-share-iterator.result in
     let ns = into_iter_items c.into_iter-weights.result in (
       λ rs of.
@@ -23,7 +23,7 @@ loop-share-init c =
     )
 
 pub loop-share-preserved : goal.loop-share-preserved
-loop-share-preserved c =
+loop-share-preserved g c =
     let now : Routers = c.loop-share.self.routers.entries in
     let s : ShareState = c.in-Some.share in
     let left = into_iter_items c.next.new.self in
@@ -41,7 +41,7 @@ loop-share-preserved c =
     )
 
 pub returns : goal.returns
-returns c =
+returns g c =
     let now : Routers = c.loop-share.self.routers.entries in
     let ns = into_iter_items c.loop-share.weights in
     let none : into_iter_items c.loop-share.share-iterator ≡ [] = first_of (search rules, grind (arith, common_steps)) in

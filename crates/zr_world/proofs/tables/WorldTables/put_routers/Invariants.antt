@@ -8,5 +8,5 @@ use Rattle.zr_world.proofs.Fanning.{ArePut}
 use Rattle.zr_world.proofs.tables.WorldTables.put_routers.Given as goal
 
 abbrev pub invariant-loop-share : goal.invariant-loop-share
-invariant-loop-share l =
+invariant-loop-share g l =
     ((rs : Routers) → AreOf rs l.fn.shares.items l.fn.weights.items → ArePut rs l.self.routers.entries (into_iter_items l.share-iterator) (into_iter_items l.weights)) × (state_of l.self ≡ with_routers (state_of l.fn.self) l.self.routers.entries)

@@ -12,14 +12,14 @@ use Rattle.zr_world.proofs.Moving.{show_is, applied, ran_out, no_lines}
 use Rattle.zr_world.proofs.tables.WorldTables.show.Goals as goal
 
 pub returns-in_err-push : goal.returns-in_err-push
-returns-in_err-push c =
+returns-in_err-push g c =
     let w = state_of c.args.self.now in
     let p = err_from_is_err_and c.from_residual.result c.from_residual.ensures.1 in
     ran_out c.from_residual.result (show_step w c.args.router) w _ c.args.report.now.items c.push.new.self.items (p.1 ∙ ap Err p.2)
     (rw c.in_err-push.ensures.items (no_lines c.args.report.now.items (lines_of (show_step w c.args.router))))
 
 pub returns-in_err-tell_tables : goal.returns-in_err-tell_tables
-returns-in_err-tell_tables c =
+returns-in_err-tell_tables g c =
     let w = state_of c.args.self.now in
     let er : router_of (state_of c.args.self.now).routers c.args.router ≡ Some c.in-Some.r.now = search rules in
     let p = err_from_is_err_and c.from_residual-in_err-tell_tables.result c.from_residual-in_err-tell_tables.ensures.1 in
@@ -30,7 +30,7 @@ returns-in_err-tell_tables c =
     (second_prefix c.args.report.now.items (Show c.args.router ∷ []) (shown c.in-Some.r.now.node) c.push.new.self.items c.tell_tables.new.report.items c.in_ok-push.ensures.items begin))
 
 pub returns : goal.returns
-returns c =
+returns g c =
     let w = state_of c.args.self.now in
     let er : router_of (state_of c.args.self.now).routers c.args.router ≡ Some c.in-Some.r.now = search rules in
     let told : c.tell_tables.new.report.items ≡ c.push.new.self.items ++ shown c.in-Some.r.now.node =

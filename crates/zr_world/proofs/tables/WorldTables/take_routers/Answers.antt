@@ -7,9 +7,9 @@ use Rattle.zr_world.proofs.Fanning.{whatever}
 use Rattle.zr_world.proofs.tables.WorldTables.take_routers.Goals as goal
 
 pub returns-clause-taken : goal.returns-clause-taken
-returns-clause-taken c = subst (λ (z : Routers). IfOk c.shares_of.result (λ x. AreTaken z x.0.items x.1.items)) (λ i. (c.replace-routers.ensures.value i).entries) c.shares_of.ensures
+returns-clause-taken g c = subst (λ (z : Routers). IfOk c.shares_of.result (λ x. AreTaken z x.0.items x.1.items)) (λ i. (c.replace-routers.ensures.value i).entries) c.shares_of.ensures
 
 pub returns-clause-rest : goal.returns-clause-rest
-returns-clause-rest c =
+returns-clause-rest g c =
     let none : c.replace-routers.new.dest.entries ≡ [] = (λ i. (c.replace-routers.ensures.after i).entries) ∙ c.new.ensures.empty in
     whatever c.shares_of.result _ (ap (λ (z : Routers). with_routers (state_of c.args.self.now) z) none)

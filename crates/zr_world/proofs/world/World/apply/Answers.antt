@@ -9,21 +9,22 @@ use Rattle.zr_law_calls.specs.Reached.{IsReached}
 use Rattle.zr_law_calls.proofs.Reached.{reached_sound}
 use Rattle.zr_world.specs.Living.{Living, Applies, IsPassed}
 use Rattle.zr_world.specs.State.{state_of}
-use Rattle.zr_world.proofs.Possible.{act_reached, act_passes, world_applies}
+use Rattle.zr_world.proofs.Possible.{act_reached, act_passes, reached_led, world_applies}
+use Rattle.zr_world.proofs.world.World.apply.Given.{Over}
 use Rattle.zr_world.proofs.world.World.apply.Goals as goal
 
 -- where nothing was done the world is sound as it was
 pub returns-then-self-ge-MOST_COMMANDS-clause-sound : goal.returns-then-self-ge-MOST_COMMANDS-clause-sound
-returns-then-self-ge-MOST_COMMANDS-clause-sound c = λ alive.
+returns-then-self-ge-MOST_COMMANDS-clause-sound g c = λ alive.
     subst (λ (l : Living). IsSound l.state) c.self.view_is
     (reached_sound (state_of c.self.inside.tables) c.self.inside.applied (c.self.invariant (ap (λ (l : Living). l.spent) c.self.view_is ∙ alive)))
 
 pub act-done-requires : goal.act-done-requires
-act-done-requires c = reached_sound (state_of c.self.inside.tables) c.self.inside.applied (c.self.invariant c.if-self.false)
+act-done-requires g c = (reached_led (state_of c.self.inside.tables) c.self.inside.applied (c.self.invariant c.if-self.false), c.requires)
 
 -- where the act was accepted one more was applied
-counted : (c : goal.After-self-2-1) → c.self.inside.applied + c.from.result ≡ cond (is_ok c.act-done.result) (c.self.inside.applied + 1) c.self.inside.applied
-counted c =
+counted : (g : Over) (c : goal.After-self-2-1 g) → c.self.inside.applied + c.from.result ≡ cond (is_ok c.act-done.result) (c.self.inside.applied + 1) c.self.inside.applied
+counted g c =
     let one : c.from.result ≡ cond (is_ok c.act-done.result) 1 0 = search (rules, tests) in
     ap (λ n. c.self.inside.applied + n) one ∙ by (is_ok c.act-done.result)
   where
@@ -32,17 +33,17 @@ counted c =
     by false = omega arith
 
 -- calls lead to the world that isn't spent
-behind : (c : goal.After-self-2-1) → c.is_out_of_memory-self-inside.result ≡ false → IsReached (state_of c.act-done.new.self) (cond (is_ok c.act-done.result) (c.self.inside.applied + 1) c.self.inside.applied)
-behind c alive =
+behind : (g : Over) (c : goal.After-self-2-1 g) → c.is_out_of_memory-self-inside.result ≡ false → IsReached (state_of c.act-done.new.self) (cond (is_ok c.act-done.result) (c.self.inside.applied + 1) c.self.inside.applied)
+behind g c alive =
     let room : c.self.inside.applied < most_commands = omega arith in
     act_reached c.act-done.result (state_of c.self.inside.tables) (state_of c.act-done.new.self) c.self.inside.applied c.args.line c.args.act c.args.report.now.items c.act-done.new.report.items c.act-done.ensures
-    room (c.self.invariant c.if-self.false) (sym c.is_out_of_memory-self-inside.ensures ∙ alive)
+    c.requires room (c.self.invariant c.if-self.false) (sym c.is_out_of_memory-self-inside.ensures ∙ alive)
 
 pub invariant_of-self : goal.invariant_of-self
-invariant_of-self c = λ alive. subst (λ n. IsReached (state_of c.act-done.new.self) n) (sym (counted c)) (behind c alive)
+invariant_of-self g c = λ alive. subst (λ n. IsReached (state_of c.act-done.new.self) n) (sym (counted g c)) (behind g c alive)
 
 pub returns-clause-applies : goal.returns-clause-applies
-returns-clause-applies c = λ alive room.
+returns-clause-applies g c = λ alive room.
     let now : WorldState = state_of c.act-done.new.self in
     let before = c.args.report.now.items in
     let after = c.act-done.new.report.items in
@@ -51,22 +52,22 @@ returns-clause-applies c = λ alive room.
     let new : Living = record { state = now; applied = count; spent = c.is_out_of_memory-self-inside.result } in
     subst (λ (l : Living). Applies c.act-done.result (outcome l.state c.args.line c.args.act) (l.applied + 1) l new before after) c.self.view_is
     (subst (λ b. Applies c.act-done.result (outcome old.state c.args.line c.args.act) (old.applied + 1) old (record { state = now; applied = count; spent = b }) before after) (sym c.is_out_of_memory-self-inside.ensures)
-    (world_applies c.act-done.result (outcome old.state c.args.line c.args.act) old now (old.applied + 1) count before after c.if-self.false (counted c) c.act-done.ensures))
+    (world_applies c.act-done.result (outcome old.state c.args.line c.args.act) old now (old.applied + 1) count before after c.if-self.false (counted g c) c.act-done.ensures))
 
 pub returns-clause-full : goal.returns-clause-full
-returns-clause-full c = λ alive most.
+returns-clause-full g c = λ alive most.
     let room : c.self.inside.applied < most_commands = omega arith in
     let same : c.self.inside.applied ≡ c.args.self.now.applied = ap (λ (l : Living). l.applied) c.self.view_is in
     absurd (omega (arith, room, same, most))
 
 pub returns-clause-limits : goal.returns-clause-limits
-returns-clause-limits c = λ limit.
+returns-clause-limits g c = λ limit.
     subst (λ (l : Living). IsPassed l c.args.act) c.self.view_is
     (inr (act_passes c.act-done.result (state_of c.self.inside.tables) (state_of c.act-done.new.self) c.self.inside.applied c.args.line c.args.act c.args.report.now.items c.act-done.new.report.items
     c.act-done.ensures (c.self.invariant c.if-self.false) limit))
 
 pub returns-clause-sound : goal.returns-clause-sound
-returns-clause-sound c = λ alive. reached_sound (state_of c.act-done.new.self) (cond (is_ok c.act-done.result) (c.self.inside.applied + 1) c.self.inside.applied) (behind c alive)
+returns-clause-sound g c = λ alive. reached_sound (state_of c.act-done.new.self) (cond (is_ok c.act-done.result) (c.self.inside.applied + 1) c.self.inside.applied) (behind g c alive)
 
 pub returns-clause-spent : goal.returns-clause-spent
-returns-clause-spent c = λ spent. absurd (false≢true (sym c.if-self.false ∙ ap (λ (l : Living). l.spent) c.self.view_is ∙ spent))
+returns-clause-spent g c = λ spent. absurd (false≢true (sym c.if-self.false ∙ ap (λ (l : Living). l.spent) c.self.view_is ∙ spent))

@@ -8,11 +8,11 @@ use Rattle.zr_world.proofs.Possible.{next_possible}
 use Rattle.zr_world.proofs.world.World.next.Goals as goal
 
 pub returns-clause-possible : goal.returns-clause-possible
-returns-clause-possible c = λ alive.
+returns-clause-possible g c = λ alive.
     subst (λ (l : Living). IfSome c.next.result (λ step. IsPossible l.state step)) c.self.view_is
     (next_possible c.next.result (state_of c.self.inside.tables) c.self.inside.applied (c.self.invariant (ap (λ (l : Living). l.spent) c.self.view_is ∙ alive)) c.next.ensures)
 
 pub returns-clause-sound : goal.returns-clause-sound
-returns-clause-sound c = λ alive.
+returns-clause-sound g c = λ alive.
     subst (λ (l : Living). IsSound l.state) c.self.view_is
     (reached_sound (state_of c.self.inside.tables) c.self.inside.applied (c.self.invariant (ap (λ (l : Living). l.spent) c.self.view_is ∙ alive)))
