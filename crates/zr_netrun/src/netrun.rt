@@ -16,7 +16,9 @@ use crate::options::NetOptions;
 use crate::status::Status;
 use std::alloc::{AllocError, Global};
 use std::thread::Threads;
+use zr_carrier::carrier::Carrier;
 use zr_law_numbers::steps_are_possible;
+use zr_netrun_batches::batches::Batches;
 use zr_netrun_lines::runner::{RunStop, Runner};
 use zr_netrun_report::counts::Counts;
 use zr_netrun_report::nowhere::Nowhere;
@@ -44,7 +46,7 @@ const MOST_A_READ: usize = 65_536;
 /// script of more than 67,108,864 bytes, none of whose lines within them is refused: `err` has `script too long`. A status of fault comes
 /// only where that count rose in this call, and a read or a write that fails ends the run by that status. Where a read fails no write has, and
 /// what had ended is reported (`prompt`). A line `fan` is given the gang and what starts its threads; neither changes what is written.
-#[tactic(auto, using(crate::proofs::Starting::from_start, crate::proofs::Asked::writes_report, crate::proofs::Asked::writes_summary))]
+/// What goes to a router goes in real frames through real sessions, cut into pieces.
 pub fn run_script<R: Threads + Sync, G: Gang, S: Source, K: Sink, E: Sink>(
     rt: &R,
     gang: &mut G,
@@ -60,21 +62,44 @@ pub fn run_script<R: Threads + Sync, G: Gang, S: Source, K: Sink, E: Sink>(
     ensures only_write { TellsFailedWrites result (K.faults out.old) (K.faults out.new) (E.faults err.old) (E.faults err.new) }
     ensures prompt { ReportsBeforeReads options (S.left input.old) (S.left input.new) (K.held out.old) (K.held out.new) (S.faults input.old) (S.faults input.new) (K.faults out.old) (K.faults out.new) }
 {
+    let carrier = Batches::new(alloc);
+    run_script_over(rt, gang, alloc, options, carrier, input, out, err)
+}
+
+/// The same over any carrier of the network's messages. What it has on wires is never seen.
+#[tactic(auto, using(crate::proofs::Starting::from_start, crate::proofs::Asked::writes_report, crate::proofs::Asked::writes_summary))]
+pub fn run_script_over<R: Threads + Sync, G: Gang, C: Carrier, S: Source, K: Sink, E: Sink>(
+    rt: &R,
+    gang: &mut G,
+    alloc: Global,
+    options: NetOptions,
+    carrier: C,
+    input: &mut S,
+    out: &mut K,
+    err: &mut E,
+) -> Status
+    ensures writes { WritesAsAsked options (S.left input.old) (S.left input.new) (IsReadToEnd (S.ends input.old) (S.ends input.new) (S.quiets input.old) (S.quiets input.new)) result (K.held out.old) (K.held out.new) (E.held err.old) (E.held err.new) }
+    ensures ends { IsEnded (IsReadToEnd (S.ends input.old) (S.ends input.new) (S.quiets input.old) (S.quiets input.new)) result (S.faults input.old) (S.faults input.new) (K.faults out.old) (K.faults out.new) (E.faults err.old) (E.faults err.new) }
+    ensures only { S.faults input.old < S.faults input.new → result ≡ Status.ReadFault }
+    ensures only_write { TellsFailedWrites result (K.faults out.old) (K.faults out.new) (E.faults err.old) (E.faults err.new) }
+    ensures prompt { ReportsBeforeReads options (S.left input.old) (S.left input.new) (K.held out.old) (K.held out.new) (S.faults input.old) (S.faults input.new) (K.faults out.old) (K.faults out.new) }
+{
     if options.summary {
-        return sum_up(rt, gang, alloc, options, input, out, err);
+        return sum_up(rt, gang, alloc, options, carrier, input, out, err);
     }
     steps_are_possible();
-    let mut runner = Runner::new(alloc, None);
+    let mut runner = Runner::new(alloc, None, carrier);
     run_lines(rt, gang, alloc, options, &mut runner, input, out, err)
 }
 
 // The report is counted and goes nowhere; at the script's end the summary is written.
 #[tactic(auto, using(crate::proofs::Starting::from_start))]
-fn sum_up<R: Threads + Sync, G: Gang, S: Source, K: Sink, E: Sink>(
+fn sum_up<R: Threads + Sync, G: Gang, C: Carrier, S: Source, K: Sink, E: Sink>(
     rt: &R,
     gang: &mut G,
     alloc: Global,
     options: NetOptions,
+    carrier: C,
     input: &mut S,
     out: &mut K,
     err: &mut E,
@@ -85,7 +110,7 @@ fn sum_up<R: Threads + Sync, G: Gang, S: Source, K: Sink, E: Sink>(
     ensures only_write { TellsFailedWrites result (K.faults out.old) (K.faults out.new) (E.faults err.old) (E.faults err.new) }
 {
     steps_are_possible();
-    let mut runner = Runner::new(alloc, Some(Counts::new()));
+    let mut runner = Runner::new(alloc, Some(Counts::new()), carrier);
     match run_lines(
         rt,
         gang,
@@ -121,12 +146,12 @@ fn tell_summary<K: Sink>(alloc: Global, counts: Option<Counts>, out: &mut K) -> 
 }
 
 // Reads a script to its end, and applies its lines as they come, by a runner to which none has come yet.
-fn run_lines<R: Threads + Sync, G: Gang, S: Source, K: Sink, E: Sink>(
+fn run_lines<R: Threads + Sync, G: Gang, C: Carrier, S: Source, K: Sink, E: Sink>(
     rt: &R,
     gang: &mut G,
     alloc: Global,
     options: NetOptions,
-    runner: &mut Runner,
+    runner: &mut Runner<C>,
     input: &mut S,
     out: &mut K,
     err: &mut E,
@@ -166,10 +191,10 @@ fn run_lines<R: Threads + Sync, G: Gang, S: Source, K: Sink, E: Sink>(
 }
 
 // A run has stopped: what waits is written, and then why its last line is refused, where it is.
-fn tell<K: Sink, E: Sink>(
+fn tell<C: Carrier, K: Sink, E: Sink>(
     alloc: Global,
     options: NetOptions,
-    runner: &mut Runner,
+    runner: &mut Runner<C>,
     stop: RunStop,
     out: &mut K,
     err: &mut E,
@@ -195,10 +220,10 @@ fn tell<K: Sink, E: Sink>(
 }
 
 // Why a line is refused, which is the last that has ended, and its explanation where that is asked for.
-fn refusal_told(
+fn refusal_told<C: Carrier>(
     alloc: Global,
     options: NetOptions,
-    runner: &Runner,
+    runner: &Runner<C>,
     error: ScriptError,
 ) -> Result<Vec<u8>, AllocError>
     ensures { IfOk result (λ text. text.items ≡ refusal_told options.explain runner.now.number runner.now.line error) }
@@ -212,10 +237,10 @@ fn refusal_told(
     Ok(text)
 }
 
-fn tell_refusal<E: Sink>(
+fn tell_refusal<C: Carrier, E: Sink>(
     alloc: Global,
     options: NetOptions,
-    runner: &Runner,
+    runner: &Runner<C>,
     error: ScriptError,
     err: &mut E,
 ) -> Status

@@ -12,3 +12,4 @@ pub mod Feeding
 pub mod Refusing
 pub mod Going
 pub mod Room
+pub mod Fitting

@@ -4,6 +4,7 @@ ghost use Rattle.std.specs.Prelude.{◌≡◌, ◌==◌, ◌+◌, ◌^◌, ◌<�
 ghost use Rattle.std.specs.List.{fold};
 ghost use Rattle.zr_script_spec.specs.Lines.{most_bytes, most_kept, ended_lines, open_line, parts, unless_empty};
 ghost use Rattle.zr_script_spec.specs.Report.{line_text};
+ghost use Rattle.zr_law_calls.specs.Fitting.{IsFit};
 ghost use Rattle.zr_law_numbers.specs.Calls.{most_commands};
 ghost use Rattle.zr_world_spec.specs.Accepted.{accepted_from};
 ghost use Rattle.zr_world_spec.specs.Next.{applied, book_step, fan_step, next};
@@ -21,6 +22,8 @@ use std::alloc::{AllocError, Global};
 use std::marker::Model;
 use std::mem;
 use std::thread::Threads;
+use zr_carrier::carrier::Carrier;
+use zr_law_carried::line_acts_fit;
 use zr_netrun_report::counts::Counts;
 use zr_netrun_report::waiting::{tell_lines, write_if_enough, write_out};
 use zr_outside::sink::{Sink, WriteFailed};
@@ -46,10 +49,10 @@ pub enum RunStop {
     WriteFault,
 }
 
-/// A script's run so far.
-pub struct Runner {
+/// A script's run so far, over what carries the messages of its network.
+pub struct Runner<C: Carrier> {
     alloc: Global,
-    world: World,
+    world: World<C>,
     number: u64,
     line: Vec<u8>,
     // the report lines of an act: kept for their memory alone
@@ -59,7 +62,7 @@ pub struct Runner {
 }
 
 // Written out, so that it is proved here, and not by each crate that lets one go.
-impl Drop for Runner {
+impl<C: Carrier> Drop for Runner<C> {
     fn drop(self) {
         let Self {
             alloc: _alloc,
@@ -73,7 +76,7 @@ impl Drop for Runner {
     }
 }
 
-impl Model for Runner {
+impl<C: Carrier> Model for Runner<C> {
     ghost use Rattle.std.specs.Prelude.{◌≡◌, ◌≤◌, ◌<◌, ◌∷◌, [], length};
     ghost use Rattle.zr_script_spec.specs.Lines.{most_kept, parts};
     ghost use Rattle.zr_netrun_report.specs.Waiting.{most_pending};
@@ -87,14 +90,15 @@ impl Model for Runner {
     ghost invariant = { λ r. (length r.line.items ≤ most_kept) × (parts r.line.items ≡ r.line.items ∷ []) × (length r.pending.items < most_pending) × IsWithin r.world r.number };
 }
 
-impl Runner {
-    /// The run of no script yet. Its report is counted where there are counts to begin with, and else it is written.
-    pub fn new(alloc: Global, counts: Option<Counts>) -> Runner
+impl<C: Carrier> Runner<C> {
+    /// The run of no script yet. Its report is counted where there are counts to begin with, and else it is written. What is on the carrier's wires is
+    /// never seen.
+    pub fn new(alloc: Global, counts: Option<Counts>, carrier: C) -> Runner<C>
         ensures { result ≡ begun counts }
     {
         Runner {
             alloc,
-            world: World::new(alloc),
+            world: World::over(alloc, carrier),
             number: 0,
             line: Vec::new(alloc),
             report: Vec::new(alloc),
@@ -309,6 +313,8 @@ impl Runner {
         ensures count { self.new.number ≤ self.old.number + 1 }
         ensures later { K.faults out.old ≤ K.faults out.new }
     {
+        // A law: it does nothing, and brings its clause.
+        line_acts_fit();
         self.count_line();
         match read_line(self.alloc, line)? {
             None => Ok(()),
@@ -331,6 +337,7 @@ impl Runner {
     // An act is applied; what it reports is counted, or waits, and is written once enough waits.
     fn do_act<K: Sink>(&mut self, act: Act, out: &mut K) -> Result<(), RunStop>
         requires alive { self.old.world.spent ≡ false }
+        requires fit { IsFit act }
         requires room { HasRoom self.old }
         requires few { self.old.world.applied < most_commands }
         ensures turn { Turns result (run_by self.old act) self.old.line self.old.pending self.new (seen (writes self.old) (K.held out.old)) (seen (writes self.old) (K.held out.new)) }
@@ -527,7 +534,7 @@ fn line_end(bytes: &[u8]) -> Option<usize>
 }
 
 // Whether a run does no further step.
-fn is_quiet(world: &World) -> bool
+fn is_quiet<C: Carrier>(world: &World<C>) -> bool
     requires { world.now.spent ≡ false }
     ensures { result ≡ is_none (next world.now.state) }
 {

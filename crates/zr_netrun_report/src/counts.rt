@@ -6,6 +6,7 @@ ghost use Rattle.zr_netrun_report.specs.Summary.{count_text, summary_text};
 
 use itoa::Buffer;
 use std::alloc::AllocError;
+use zr_carrier::carrier::Carrier;
 use zr_script_spec::report::{FanSteps, ReportLine};
 use zr_world::world::World;
 
@@ -36,7 +37,7 @@ impl Counts {
     }
 
     /// Counts report lines of this world.
-    pub fn add(&mut self, report: &[ReportLine], world: &World)
+    pub fn add<C: Carrier>(&mut self, report: &[ReportLine], world: &World<C>)
         ensures { self.new ≡ with_lines world.now.state.routers self.old report.now }
     {
         for line in report {
@@ -44,7 +45,7 @@ impl Counts {
         }
     }
 
-    fn add_line(&mut self, line: &ReportLine, world: &World)
+    fn add_line<C: Carrier>(&mut self, line: &ReportLine, world: &World<C>)
         ensures { self.new ≡ with_line world.now.state.routers self.old line.now }
     {
         match line {

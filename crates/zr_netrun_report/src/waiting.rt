@@ -11,6 +11,7 @@ ghost use Rattle.zr_netrun_report.specs.Waiting.{most_pending, Written};
 
 use crate::counts::Counts;
 use std::alloc::AllocError;
+use zr_carrier::carrier::Carrier;
 use zr_outside::sink::{Sink, WriteFailed, write_all};
 use zr_script::text::line_text;
 use zr_script_spec::report::ReportLine;
@@ -21,9 +22,9 @@ const MOST_PENDING: usize = 65_536;
 
 /// Report lines of this world are counted, where there are counts; else their texts wait behind what waited. Where memory runs out nothing
 /// more waits.
-pub fn tell_lines(
+pub fn tell_lines<C: Carrier>(
     counts: &mut Option<Counts>,
-    world: &World,
+    world: &World<C>,
     report: &[ReportLine],
     pending: &mut Vec<u8>,
 ) -> Result<(), AllocError>

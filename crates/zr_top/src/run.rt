@@ -10,6 +10,7 @@ ghost use Rattle.zr_guarantee.specs.Refines.{PhasesDeliver, PhasesRefine};
 ghost use Rattle.zr_guarantee.specs.Scripts.{IsRefined, TellsClients, TellsTokens};
 ghost use Rattle.zr_law_samples.specs.Keys.{AnsweringIsCovering, AnsweringIsMeeting, AskingIsMeeting};
 ghost use Rattle.zr_law_samples.specs.Runs.{RestIsQuiet};
+ghost use Rattle.zr_law_carried.specs.Carriable.{ReachedIsCarriable};
 ghost use Rattle.zr_law_declared.specs.Logs.{SettledLogsAreKnown};
 ghost use Rattle.zr_law_declared.specs.Rows.{SettledRowsAreDeclared};
 ghost use Rattle.zr_law_declared.specs.Sets.{SettledSetsAreDeclared};
@@ -31,11 +32,13 @@ ghost use Rattle.zr_law_settled.specs.Events.{NoEventIsRefused};
 ghost use Rattle.zr_law_settled.specs.Tables.{AgreeWhereSettled, SettledLogsAgree};
 ghost use Rattle.zr_law_told.specs.Maps.{ToldMapsAreHeard};
 ghost use Rattle.zr_netrun.specs.Clauses.{OfLines, OfScriptLines, ReportsBeforeReads, WritesAsAsked};
+ghost use Rattle.zr_open.specs.Laws.{ClientsOpen, RoutersOpenWithEachOther};
 ghost use Rattle.zr_pend_spec.specs.Best.{GatheredIsBest};
 ghost use Rattle.zr_rules.specs.Carets.{CaretsAreUnderWrongKeys, CaretsAreUnderWrongWords};
 ghost use Rattle.zr_top.specs.Means.{HaveKeyTexts, LeadToTheirReport};
 ghost use Rattle.zr_outside_crew.specs.Crew.{crew_faults, crew_told};
 ghost use Rattle.zr_serve.specs.Serving.{outputs};
+ghost use Rattle.zr_session.specs.Laws.{NoCutMatters, PackedMessagesAreReadBack};
 ghost use Rattle.zr_top.specs.Asked.{IsServingBy};
 ghost use Rattle.zr_make.specs.Script.{script, text_of};
 ghost use Rattle.zr_top.specs.Told.{IsTold, IsWritten, TellsUsage, IsUnhindered};
@@ -49,6 +52,7 @@ use std::alloc::Global;
 use std::sync::Wait;
 use std::thread::Threads;
 use zr_key::laws::{each_expression_is_read, reading_is_canonical, reading_keeps_keys};
+use zr_law_carried::reached_is_carriable;
 use zr_law_declared::{
     settled_logs_are_known, settled_rows_are_declared, settled_sets_are_declared,
 };
@@ -73,6 +77,7 @@ use zr_law_settled::{settled_logs_agree, settled_tables_agree};
 use zr_law_told::{lines_tell_clients, lines_tell_tokens, told_maps_are_heard};
 use zr_link_job::ServeJob;
 use zr_netrun::status::Status;
+use zr_open::{clients_open, routers_open_with_each_other};
 use zr_outside::host::Host;
 use zr_outside::sink::Sink;
 use zr_outside::source::Source;
@@ -80,6 +85,7 @@ use zr_outside_brief::BriefSink;
 use zr_outside_crew::Crew;
 use zr_pend_spec::laws::gathered_is_best;
 use zr_rules::{carets_are_under_wrong_keys, carets_are_under_wrong_words};
+use zr_session::{no_cut_matters, packed_messages_are_read_back};
 use zr_top_words::forms::forms_are_taken;
 use zr_tree::laws::{distances_are_of_shortest_walks, records_make_graphs};
 
@@ -123,7 +129,9 @@ use zr_tree::laws::{distances_are_of_shortest_walks, records_make_graphs};
 /// and lose nothing, and their histories leave nothing out and close no link. There each router's tables are the replay of its own history, but for the names
 /// of its clients. From a moment at which they are settled and joined, by what they have and have queued for one another, what was queued for each client
 /// is, publisher by publisher, a prefix of what one broker
-/// sends it (`phases`). The parcels of a link are those of these messages (`packed`). What a router does depends neither on its clients' identifiers, nor
+/// sends it (`phases`). The parcels of a link are those of these messages (`packed`). `net` has its routers hear such parcels too: what waits for a router
+/// in a script's network may be sent so, sessions open with each other, and what is packed is read back as it was, wherever it is cut (`carried`).
+/// What a router does depends neither on its clients' identifiers, nor
 /// on what their links weigh, nor on the trees that they name (`names`). The premises stand in `zr_law_running` (`specs/Allowed`).
 ///
 /// The clause `served` says which rules were read, and where a router was served under them, what was called of the host, which jobs the crew started, and what
@@ -185,6 +193,7 @@ where
     ensures running { RunsAreOfAWorld × RunningRoutersAreAWorld }
     ensures phases { SettledRunsHavePhases × RunsSettleAsWorlds × PhasesDeliver × PhasesRefine }
     ensures packed { QueuesArePacked }
+    ensures carried { ReachedIsCarriable × RoutersOpenWithEachOther × ClientsOpen × PackedMessagesAreReadBack × NoCutMatters }
     ensures names { NamesChangeNothing × TreesChangeNothing × StepsAreAlike }
     ensures carets { CaretsAreUnderWrongWords × CaretsAreUnderWrongKeys }
     ensures served { IfSome (served_of (map string_bytes words.now)) (λ s. IsServingBy s result (S.left input.old) (S.left input.new) (IsReadToEnd (S.ends input.old) (S.ends input.new) (S.quiets input.old) (S.quiets input.new)) (H.generators host.old) (H.generators host.new) (H.calls host.old) (H.calls host.new) (crew_told crew.old) (crew_told crew.new) (crew_faults crew.old) (crew_faults crew.new) (outputs (K.held out.old) (E.held err.old) (E.faults err.old)) (outputs (K.held out.new) (E.held err.new) (E.faults err.new))) }
@@ -241,6 +250,11 @@ where
     phases_deliver();
     phases_refine();
     queues_are_packed();
+    reached_is_carriable();
+    routers_open_with_each_other();
+    clients_open();
+    packed_messages_are_read_back();
+    no_cut_matters();
     names_change_nothing();
     trees_change_nothing();
     steps_are_alike();

@@ -4,7 +4,7 @@ use Rattle.zr_netrun_lines.proofs.Room.{within_booked}
 use Rattle.zr_netrun_lines.proofs.runner.Runner.count_steps.Goals as goal
 
 pub invariant_of-self : goal.invariant_of-self
-invariant_of-self c =
+invariant_of-self g c =
     let alive : c.self.inside.world.spent ≡ false = ap (λ (k : Kept). k.world.spent) c.self.view_is ∙ c.requires.alive in (
       c.self.invariant.0,
       c.self.invariant.1,

@@ -6,9 +6,9 @@ use Rattle.zr_netrun_lines.proofs.Room.{within_first}
 use Rattle.zr_netrun_lines.proofs.runner.Runner.new.Goals as goal
 
 pub invariant_of-result : goal.invariant_of-result
-invariant_of-result c = (
-  omega (arith, ap (λ (z : List ℕ). length z) c.new-2.ensures.items),
-  subst (λ (z : List ℕ). parts z ≡ z ∷ []) (sym c.new-2.ensures.items) refl,
-  omega (arith, ap (λ (z : List ℕ). length z) c.new-4.ensures.items),
-  subst (λ (w : Living). IsWithin w 0) (sym c.new.ensures) within_first,
+invariant_of-result g c = (
+  omega (arith, ap (λ (z : List ℕ). length z) c.new.ensures.items),
+  subst (λ (z : List ℕ). parts z ≡ z ∷ []) (sym c.new.ensures.items) refl,
+  omega (arith, ap (λ (z : List ℕ). length z) c.new-3.ensures.items),
+  subst (λ (w : Living). IsWithin w 0) (sym c.over.ensures) within_first,
 )

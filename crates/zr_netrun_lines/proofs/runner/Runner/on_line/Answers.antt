@@ -76,3 +76,8 @@ returns-in-Some-Fan-clause-counts g c =
     line_counts_if c.args.self.now c.count_line.new.self c.fan.new.self c.args.line.now _ _ k.Fan _ _ c.fan.result asks c.count_line.ensures.counted
     (fan_line_turns c.args.self.now c.count_line.new.self c.fan.new.self c.args.line.now (g.K.Sink.held c.args.out.now) (g.K.Sink.held c.fan.new.out) c.fan.result asks c.count_line.ensures.counted c.fan.ensures.turn)
     c.fan.ensures.counts
+
+pub do_act-requires-clause-fit : goal.do_act-requires-clause-fit
+do_act-requires-clause-fit g c =
+    let asks : command_of c.args.line.now ≡ Ok (Some (k.Act c.in-Some-Act.act)) = search rules in
+    c.line_acts_fit.ensures c.in-Some-Act.act (c.args.line.now, asks)

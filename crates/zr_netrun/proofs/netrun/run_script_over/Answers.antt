@@ -1,6 +1,6 @@
 -- Where a read failed what had ended was reported, with a summary as without.
 use Rattle.zr_netrun.proofs.Asked.{reports_before_reads, writes_report, writes_summary}
-use Rattle.zr_netrun.proofs.netrun.run_script.Goals as goal
+use Rattle.zr_netrun.proofs.netrun.run_script_over.Goals as goal
 
 pub returns-then-options-clause-prompt : goal.returns-then-options-clause-prompt
 returns-then-options-clause-prompt g c =
