@@ -1,5 +1,8 @@
 //! Bodies of messages: which are kept, byte for byte, and why others are refused.
 
+ghost use Rattle.std.specs.Prelude.{◌≤◌, length, IfOk};
+ghost use Rattle.zr_body.specs.Body.{IsBodyIn};
+
 use crate::row::{self, Fault};
 use std::alloc::{AllocError, Global};
 use zr_body::{Body, Place, is_later, latest, read_body, stamp, write_body};
@@ -52,8 +55,16 @@ fn later(alloc: Global, words: &[&str]) -> Result<String, Fault> {
 }
 
 fn body_at(alloc: Global, words: &[&str], at: usize, place: Place) -> Result<Body, Fault> {
-    let bytes = row::bytes(alloc, words, at)?;
-    let mut c = Cursor::new(&bytes);
+    body(alloc, &row::bytes(alloc, words, at)?, place)
+}
+
+/// The body at the beginning of bytes.
+#[tactic(auto, using(crate::proofs::Sendable::read_is_body, crate::proofs::Sendable::read_is_short))]
+pub fn body(alloc: Global, bytes: &[u8], place: Place) -> Result<Body, Fault>
+    ensures is_body { IfOk result (λ b. IsBodyIn place b) }
+    ensures short { IfOk result (λ b. length b ≤ length bytes.now) }
+{
+    let mut c = Cursor::new(bytes);
     match read_body(alloc, &mut c, place) {
         Ok(body) => Ok(body),
         Err(_) => Err(Fault::Row),

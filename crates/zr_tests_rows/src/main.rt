@@ -1,16 +1,15 @@
 //! Rows of what names a network (key expressions, how they compare and an index of them, links, trees, change logs, pending requests), of the
-//! wire's formats (bytes, extensions, bodies, keys, transport messages, declarations, network messages, messages between routers), of opening, frames
-//! and whole sessions, and of access rules.
+//! wire's formats (bytes, extensions, bodies, keys, transport messages, declarations, network messages, messages between routers), of opening, frames,
+//! whole sessions and a script's wires, and of access rules.
 //!
 //! A row of standard input names a call and what it takes, word by word; it is written to standard output with what came of it behind `=`. Empty
 //! lines and those that begin with `#` are written as they are. What is to come stands in the file `stdout` beside this folder, as the
 //! specification says it, so that a call that gives something else makes the program's output differ from it.
-//!
-//! With the words `net [--summary] [--explain]` standard input is a script, which is run over wires that keep messages as they are.
 #![tactic(auto)]
 
 mod again;
 mod bodies;
+mod carriers;
 mod chains;
 mod equalities;
 mod expressions;
@@ -28,7 +27,7 @@ mod pending;
 mod pieces;
 mod row;
 mod rules;
-mod scripts;
+mod sendable;
 mod sessions;
 mod sets;
 mod texts;
@@ -37,47 +36,8 @@ mod trees;
 
 use crate::row::Fault;
 use std::alloc::Global;
-use std::env;
-use std::process::ExitCode;
-use zr_outside::std_streams::{ReadSource, WriteSink};
 
-fn main(rt: HostRuntime) -> ExitCode {
-    match words(&rt) {
-        Ok(words) if scripts::is_asked(&words) => script(&rt, &words),
-        Ok(_) => end(&rt, rows(&rt)),
-        Err(fault) => end(&rt, Err(fault)),
-    }
-}
-
-// The words, the program's name the first of them.
-fn words(rt: &HostRuntime) -> Result<Vec<String>, Fault> {
-    match env::args(rt) {
-        Ok(words) => row::or_fault(words.collect(rt.alloc())),
-        Err(_) => Err(Fault::Stream),
-    }
-}
-
-// Runs the script of standard input, and ends as `net` does.
-fn script(rt: &HostRuntime, words: &[String]) -> ExitCode {
-    let mut input = ReadSource::new(rt.stdin());
-    let mut out = WriteSink::new(rt.stdout());
-    let mut err = WriteSink::new(rt.stderr());
-    let status = scripts::answer(rt, rt.alloc(), words, &mut input, &mut out, &mut err);
-    ExitCode::from(status)
-}
-
-// Tells a fault, if there was one.
-fn end(rt: &HostRuntime, done: Result<(), Fault>) -> ExitCode {
-    match done {
-        Ok(()) => ExitCode::SUCCESS,
-        Err(fault) => {
-            let _ = eprintln!(rt; "{fault:?}");
-            ExitCode::FAILURE
-        }
-    }
-}
-
-fn rows(rt: &HostRuntime) -> Result<(), Fault> {
+fn main(rt: HostRuntime) -> Result<(), Fault> {
     for line in rt.lines(rt.alloc()) {
         let Ok(line) = line else {
             return Err(Fault::Stream);
@@ -135,6 +95,7 @@ fn of_state(alloc: Global, name: &str, words: &[&str]) -> Result<String, Fault> 
         "session" => sessions::answer(alloc, words),
         "session-cuts" => sessions::cuts(alloc, words),
         "session-pieces" => pieces::answer(alloc, words),
+        "carrier" => carriers::answer(alloc, words),
         _ => Err(Fault::Row),
     }
 }
