@@ -33,12 +33,13 @@ use Rattle.zr_world_spec.proofs.Lines.{refused_stays}
 use Rattle.zr_guarantee.specs.Queries.{Saying, saying_in, sayings}
 use Rattle.zr_guarantee.specs.Latest.{saying_weight}
 use Rattle.zr_law_settled.proofs.Goes.{Goes, goes_first}
+use Rattle.zr_law_settled.proofs.Spreading.{Name}
 use Rattle.zr_law_numbers.specs.Rows.{AreOfLinks}
 use Rattle.zr_law_numbers.proofs.Numbers.{AllGo, all_go, numbers_first}
 use Rattle.zr_law_held.specs.Weights.{tagged_weight, waiting_weight, replies_weight, RepliesWeigh, RepliesHaveRoom}
 use Rattle.zr_law_held.proofs.Sums.{total, total_has, total_set, total_insert, total_lighter, total_once}
 use Rattle.zr_law_held.proofs.Carries.{came, event_carries}
-use Rattle.zr_law_held.proofs.Heard.{Name, msg_weight, tagged_weighs, held_in, heard_weighs}
+use Rattle.zr_law_held.proofs.Heard.{msg_weight, tagged_weighs, held_in, heard_weighs}
 
 -- what an act replies weighs
 abbrev pub said_weight : ℕ → Act → ℕ

@@ -29,12 +29,10 @@ use Rattle.zr_world_spec.proofs.Ends.{ends}
 use Rattle.zr_world_spec.proofs.Links.{named_link, numbered_link}
 use Rattle.zr_world_spec.proofs.Telling.{is_told, heard_is, told_alone}
 use Rattle.zr_law_settled.proofs.Told.{by_told}
+use Rattle.zr_law_settled.proofs.Spreading.{Name}
 use Rattle.zr_law_held.specs.Weights.{tagged_weight, waiting_weight, replies_weight}
 use Rattle.zr_law_held.proofs.Sums.{total, total_set}
 use Rattle.zr_law_held.proofs.Carries.{Sending, over_link, sent_weight, contents_in, came, Carries}
-
-abbrev pub Name : Type 0
-Name = List ℕ
 
 -- ---- messages
 
