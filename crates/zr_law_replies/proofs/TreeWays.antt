@@ -20,6 +20,7 @@ use Rattle.zr_world_spec.specs.Moments.{Numbered, Moment}
 use Rattle.zr_world_spec.proofs.Keyed.{there}
 use Rattle.zr_world_spec.proofs.Names.{names, same_name}
 use Rattle.zr_world_spec.proofs.Links.{named_link, numbered_link}
+use Rattle.zr_world_spec.proofs.Fits.{up_is_there}
 use Rattle.zr_guarantee.specs.Item.{Carried, Query}
 use Rattle.zr_guarantee.specs.Broker.{is_attached, takes}
 use Rattle.zr_guarantee.specs.Queries.{Asked, asks}
@@ -31,7 +32,7 @@ use Rattle.zr_law_samples.proofs.Asking.{set_asks}
 use Rattle.zr_law_samples.proofs.Routed.{AreReady}
 use Rattle.zr_law_samples.proofs.Start.{Marked, ready, detached, who_is_attached}
 use Rattle.zr_law_replies.specs.Trees.{has_router, home_of, parent_of, named_at, passes_at, tree_at, IsTreeOf}
-use Rattle.zr_law_replies.proofs.Trees.{up_there, asked_client, asked_router, IsPassed, home_there, client_apart, differ, parent_linked, parent_there, asks_home, asks_router, in_own_tree, in_parent_tree, home_child, child_cases, child_router, link_up, passed_client, is_tree}
+use Rattle.zr_law_replies.proofs.Trees.{asked_client, asked_router, IsPassed, home_there, client_apart, differ, parent_linked, parent_there, asks_home, asks_router, in_own_tree, in_parent_tree, home_child, child_cases, child_router, link_up, passed_client, is_tree}
 
 module _ (before : List Numbered) (mark : ℕ) (now : Moment) (m : Marked before mark now) (q : Asked) (s : ClientState) (e : client_of now.world.clients q.client ≡ Some s) where
   abbrev w : WorldState
@@ -78,7 +79,7 @@ module _ (before : List Numbered) (mark : ℕ) (now : Moment) (m : Marked before
         sd = who_is_attached before mark now m d attached
 
         at_home : sd.0.router ≡ x
-        at_home = sym (h.homes d x sd.0 sd.1 (up_there (end_of w.ends (x, d)) up))
+        at_home = sym (h.homes d x sd.0 sd.1 (up_is_there (end_of w.ends (x, d)) up))
 
         took : takes before d query ≡ true
         took = sym (h.asked d sd.0 p.router p.link sd.1 attached (ap (router_of w.routers) at_home ∙ p.at) p.to query)
@@ -209,7 +210,7 @@ module _ (before : List Numbered) (mark : ℕ) (now : Moment) (m : Marked before
           p_there = parent_there before w h q s e x p ep
 
           x_there : has_router w x ≡ true
-          x_there = h.sound.routers x p (up_there (end_of w.ends (x, p)) ups.0)
+          x_there = h.sound.routers x p (up_is_there (end_of w.ends (x, p)) ups.0)
 
           r : (r : RouterState) × (router_of w.routers p ≡ Some r)
           r = there (router_of w.routers p) p_there

@@ -18,12 +18,13 @@ use Rattle.zr_node_spec.specs.Tables.{TableState, is_router, link_at, link_to}
 use Rattle.zr_node_spec.specs.Samples.{tree_by, tree_of}
 use Rattle.zr_node_spec.specs.Queries.{answers, has_queryable, leads_to_queryable, is_asked, links_along}
 use Rattle.zr_node_spec.specs.State.{tables}
-use Rattle.zr_world_spec.specs.World.{EndState, RouterState, ClientState, WorldState, router_of, client_of, end_of, is_up, is_linked}
+use Rattle.zr_world_spec.specs.World.{RouterState, ClientState, WorldState, router_of, client_of, end_of, is_up, is_linked}
 use Rattle.zr_world_spec.specs.Joined.{graph}
 use Rattle.zr_world_spec.specs.Moments.{Numbered}
 use Rattle.zr_world_spec.proofs.Keyed.{there}
 use Rattle.zr_world_spec.proofs.Names.{names, same_name}
 use Rattle.zr_world_spec.proofs.Links.{named_link, numbered_link}
+use Rattle.zr_world_spec.proofs.Fits.{up_is_there}
 use Rattle.zr_guarantee.specs.Queries.{Asked}
 use Rattle.zr_law_queries.specs.Query as tree
 use Rattle.zr_law_queries.specs.Query.{IsTree}
@@ -32,11 +33,6 @@ use Rattle.zr_law_samples.proofs.Pushes.{tree_from_client, tree_from_parent, lea
 use Rattle.zr_law_samples.proofs.Routed.{AreReady}
 use Rattle.zr_law_replies.specs.Trees.{has_router, home_of, parent_of, named_at, passes_at, height_at, links_from, neighbours_of, children_at, tree_at}
 use Rattle.zr_law_replies.proofs.TreeLinks.{neighbour_link, link_neighbour}
-
--- an end that is up is there
-pub up_there : (o : Option EndState) → option_map_or (λ s. s.up) o false ≡ true → is_some o ≡ true
-up_there None h = absurd (false≢true h)
-up_there (Some s) h = refl
 
 -- whether a request goes over a link to a client, and over one to a router
 module _ (t : TableState) (from : ℕ) (root : List ℕ) (target : Target) (key : List ℕ) (l : LinkPeer) where
@@ -83,9 +79,6 @@ module _ (before : List Numbered) (w : WorldState) (h : AreReady before w) (q : 
       by false k = refl
       by true k = absurd (false≢true (sym a ∙ ap (has_router w) (same_name x y k) ∙ b))
 
-  pub end_there : (x y : List ℕ) → is_up w.ends (x, y) ≡ true → is_some (end_of w.ends (x, y)) ≡ true
-  end_there x y k = up_there (end_of w.ends (x, y)) k
-
   -- a router's parent is a router, and they have a link
   pub parent_linked : (x p : List ℕ) → parent (graph w) (home_of w q.client) x ≡ Some p → (is_up w.ends (x, p) ≡ true) × (is_up w.ends (p, x) ≡ true)
   parent_linked x p k =
@@ -93,7 +86,7 @@ module _ (before : List Numbered) (w : WorldState) (h : AreReady before w) (q : 
       and_parts (is_up w.ends (x, p)) (is_up w.ends (p, x)) (in_filter (λ z. is_linked w.ends x z) (graph w).names p f.1.neighbour).1
 
   pub parent_there : (x p : List ℕ) → parent (graph w) (home_of w q.client) x ≡ Some p → has_router w p ≡ true
-  parent_there x p k = h.sound.routers p x (end_there p x (parent_linked x p k).1)
+  parent_there x p k = h.sound.routers p x (up_is_there (end_of w.ends (p, x)) (parent_linked x p k).1)
 
   -- ---- who asks
 
@@ -273,7 +266,7 @@ module _ (before : List Numbered) (w : WorldState) (h : AreReady before w) (q : 
             is = same_name q.client y k
 
             at_home : x ≡ home_of w q.client
-            at_home = h.homes q.client x s e (ap (λ z. is_some (end_of w.ends (x, z))) is ∙ end_there x y link_up) ∙ sym home_is
+            at_home = h.homes q.client x s e (ap (λ z. is_some (end_of w.ends (x, z))) is ∙ up_is_there (end_of w.ends (x, y)) link_up) ∙ sym home_is
 
             same_link : (p.link.link.0 == p.source.link.0) ≡ true
             same_link =
@@ -283,11 +276,11 @@ module _ (before : List Numbered) (w : WorldState) (h : AreReady before w) (q : 
 
     -- it is one of this router's
     pub passed_home : has_router w y ≡ false → home_of w y ≡ x
-    passed_home none = by (client_of w.clients y) refl (sym (ap (λ b. b || is_some (client_of w.clients y)) none) ∙ h.sound.neighbours x y (end_there x y link_up))
+    passed_home none = by (client_of w.clients y) refl (sym (ap (λ b. b || is_some (client_of w.clients y)) none) ∙ h.sound.neighbours x y (up_is_there (end_of w.ends (x, y)) link_up))
       where
         by : (o : Option ClientState) → client_of w.clients y ≡ o → is_some o ≡ true → home_of w y ≡ x
         by None ey k = absurd (false≢true k)
-        by (Some sy) ey k = ap (λ o. option_map_or (λ (z : ClientState). z.router) o []) ey ∙ sym (h.homes y x sy ey (end_there x y link_up))
+        by (Some sy) ey k = ap (λ o. option_map_or (λ (z : ClientState). z.router) o []) ey ∙ sym (h.homes y x sy ey (up_is_there (end_of w.ends (x, y)) link_up))
 
     pub passed_from : parent_of w q.client y ≡ x
     passed_from = by (has_router w y) refl

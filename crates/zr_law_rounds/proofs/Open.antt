@@ -11,6 +11,7 @@ use Rattle.zr_world_spec.specs.World.{Tagged, RouterState, EndState, End, WorldS
 use Rattle.zr_world_spec.specs.Sound.{IsSound}
 use Rattle.zr_world_spec.proofs.Ends.{end_passes}
 use Rattle.zr_world_spec.proofs.Links.{named_link}
+use Rattle.zr_world_spec.proofs.Fits.{up_is_there}
 use Rattle.zr_law_fan.specs.Samples.{Handling, Taking, can_go}
 
 pub record IsOpen (w : WorldState) (x : List ℕ) (l : LinkPeer) : Type 0 where
@@ -27,10 +28,6 @@ module _ (w : WorldState) (sound : IsSound w) (settled : is_settled w ≡ true) 
   there_up e None is up = absurd (false≢true up)
   there_up e (Some s) is up = (s, is, up)
 
-  some_up : (o : Option EndState) → option_map_or (λ s. s.up) o false ≡ true → is_some o ≡ true
-  some_up None up = absurd (false≢true up)
-  some_up (Some s) up = refl
-
   pub met : (e : End) (s : EndState) → end_of w.ends e ≡ Some s → s.up ≡ true → (s.unbroken && (not (is_some (router_of w.routers e.1)) || is_up w.ends (turned e))) ≡ true
   met e s there up =
       let passes = end_passes (λ z. is_met w z.0 z.1 && is_calm_end z.1) w.ends e s settled there in
@@ -42,7 +39,7 @@ module _ (w : WorldState) (sound : IsSound w) (settled : is_settled w ≡ true) 
   turned_is y true true k e up = refl
   turned_is y true false k e up =
       let is : is_up w.ends (y, x) ≡ true = sym (ap (λ b. not b || is_up w.ends (y, x)) k) ∙ up in
-      absurd (false≢true (sym e ∙ some_up (end_of w.ends (y, x)) is))
+      absurd (false≢true (sym e ∙ up_is_there (end_of w.ends (y, x)) is))
   turned_is y false true k e up = absurd (false≢true (sym k ∙ sound.routers y x e))
   turned_is y false false k e up = refl
 

@@ -4,10 +4,10 @@ use Rattle.std.specs.Prelude.{◌&&◌, ◌||◌, ◌==◌, is_some, max, min, s
 use Rattle.std.specs.List.{filter, list_any, list_all}
 use Rattle.std.specs.List.Sorted.{IsStrictlySortedBy}
 use Rattle.std.specs.Map.{lookup, keys_of}
-use Rattle.std.specs.Option.{option_map_or}
 use Rattle.std.specs.Ordering.{nat_cmp}
 use Rattle.std.specs.Cmp.Lexicographic.{slice_cmp}
 use Rattle.std.proofs.lemmas.Bool.{false≢true, true≢false, and_parts, and_from, eqb-true, eqb-false}
+use Rattle.std.proofs.Math.Bool.{and-false}
 use Rattle.zr_id.specs.Zid.{is_named}
 use Rattle.zr_graph.specs.Record.{has}
 use Rattle.zr_tree.specs.Walk.{Graph, IsWalk}
@@ -15,10 +15,11 @@ use Rattle.zr_tree.specs.Tree.{dist, reached}
 use Rattle.zr_tree.specs.Laws.{IsGraph}
 use Rattle.zr_tree.proofs.Paths.{exact, walk_back, walk_reaches}
 use Rattle.zr_lists.proofs.Finds.{any_in, in_any}
-use Rattle.zr_world_spec.specs.World.{EndState, WorldState, Ends, end_of, end_weight, is_up, is_linked}
+use Rattle.zr_world_spec.specs.World.{WorldState, Ends, end_of, end_weight, is_up, is_linked}
 use Rattle.zr_world_spec.specs.Joined.{graph, is_joined, linked_weight}
 use Rattle.zr_world_spec.specs.Sound.{IsSound}
 use Rattle.zr_world_spec.proofs.Names.{names, same_name}
+use Rattle.zr_world_spec.proofs.Fits.{up_is_there}
 use Rattle.zr_world.specs.Search.{IsSearched}
 
 -- ---- names in lists
@@ -92,14 +93,10 @@ weight_back ends x y = by (is_up ends (x, y)) (is_up ends (y, x))
 pub is_graph : (w : WorldState) → IsSound w → IsStrictlySortedBy (slice_cmp nat_cmp) (keys_of w.routers) → IsGraph (graph w)
 is_graph w sound ascending = record {
   ascending = ascending;
-  known = λ x y h. sym (has_key w.routers x) ∙ sound.routers x y (up_there (end_of w.ends (x, y)) (and_parts (is_up w.ends (x, y)) (is_up w.ends (y, x)) h).0);
+  known = λ x y h. sym (has_key w.routers x) ∙ sound.routers x y (up_is_there (end_of w.ends (x, y)) (and_parts (is_up w.ends (x, y)) (is_up w.ends (y, x)) h).0);
   both_ways = λ x y h. both_linked w.ends y x ∙ h;
   as_long = λ x y. ap (λ n. max 1 n) (weight_back w.ends x y);
 }
-  where
-    up_there : (o : Option EndState) → option_map_or (λ s. s.up) o false ≡ true → is_some o ≡ true
-    up_there None h = absurd (false≢true h)
-    up_there (Some s) h = refl
 
 -- ---- walks
 
@@ -140,18 +137,14 @@ module _ (w : WorldState) (is : IsGraph (graph w)) (root : List ℕ) where
   pub begun : has (keys_of w.routers) root ≡ true → IsSearched w root (root ∷ []) (filter (λ y. not (is_named y root)) (keys_of w.routers))
   begun there = record {
     within = λ y h. (and_parts (has (keys_of w.routers) y) (not (is_named y root)) (sym (others y) ∙ h)).0;
-    rooted = others root ∙ ap (λ b. has (keys_of w.routers) root && not b) (names.refl root) ∙ never (has (keys_of w.routers) root);
+    rooted = others root ∙ ap (λ b. has (keys_of w.routers) root && not b) (names.refl root) ∙ and-false (has (keys_of w.routers) root);
     fresh = λ x h. ap (has (keys_of w.routers)) (sym (only x h)) ∙ there;
     met = λ x h. ap (has (filter (λ y. not (is_named y root)) (keys_of w.routers))) (sym (only x h))
-        ∙ others root ∙ ap (λ b. has (keys_of w.routers) root && not b) (names.refl root) ∙ never (has (keys_of w.routers) root);
+        ∙ others root ∙ ap (λ b. has (keys_of w.routers) root && not b) (names.refl root) ∙ and-false (has (keys_of w.routers) root);
     are_reached = λ y h k. ap (λ z. reached (graph w) root z) (same_name y root (not_other y h k)) ∙ reaches_itself (graph w) is root;
     closed = λ x y h k f j. absurd (false≢true (sym f ∙ ap (λ b. b || false) (names.symm root x ∙ not_other x h k)));
   }
     where
-      never : (b : Bool) → (b && false) ≡ false
-      never true = refl
-      never false = refl
-
       others : (y : List ℕ) → has (filter (λ z. not (is_named z root)) (keys_of w.routers)) y ≡ (has (keys_of w.routers) y && not (is_named y root))
       others y = has_filter (λ z. not (is_named z root)) (keys_of w.routers) y
 
@@ -179,15 +172,11 @@ module _ (w : WorldState) (is : IsGraph (graph w)) (root : List ℕ) where
       within = λ y h. s.within y (and_parts (has missing y) (not (near y)) (sym (left y) ∙ h)).0;
       rooted = left root ∙ ap (λ b. b && not (near root)) s.rooted;
       fresh = λ x h. s.within x (and_parts (has missing x) (near x) (sym (new x) ∙ h)).0;
-      met = λ x h. left x ∙ ap (λ b. has missing x && not b) (and_parts (has missing x) (near x) (sym (new x) ∙ h)).1 ∙ never (has missing x);
+      met = λ x h. left x ∙ ap (λ b. has missing x && not b) (and_parts (has missing x) (near x) (sym (new x) ∙ h)).1 ∙ and-false (has missing x);
       are_reached = λ y h k. is_reached y h (has missing y) (near y) refl refl (sym (left y) ∙ k);
       closed = λ x y h k f j. is_closed x y h j (has missing x) (has found x) refl refl (sym (left x) ∙ k) (sym (new x) ∙ f);
     }
       where
-        never : (b : Bool) → (b && false) ≡ false
-        never true = refl
-        never false = refl
-
         left : (y : List ℕ) → has (filter (λ z. not (near z)) missing) y ≡ (has missing y && not (near y))
         left y = has_filter (λ z. not (near z)) missing y
 
@@ -210,7 +199,7 @@ module _ (w : WorldState) (is : IsGraph (graph w)) (root : List ℕ) where
             by : (b : Bool) → not b ≡ false → b ≡ false → ⊥
             by true p q = true≢false q
             by false p q = true≢false p
-        is_closed x y h j false true e g k l = left y ∙ ap (λ b. has missing y && not b) linked ∙ never (has missing y)
+        is_closed x y h j false true e g k l = left y ∙ ap (λ b. has missing y && not b) linked ∙ and-false (has missing y)
           where
             linked : near y ≡ true
             linked = let z = any_in (λ z. is_named z x) found g in in_any (λ z. is_linked w.ends z y) found z.0 z.1 (ap (λ v. is_linked w.ends v y) (same_name z.0 x z.2) ∙ j)
