@@ -1,6 +1,5 @@
 -- A sample leaves a router as it is, whose clients were told of what they want.
-use Rattle.std.proofs.Common.{◌≡◌, ℕ, Bool, true, false, cond, not, List, [], Option, Some, None, refl, sym, ap, ◌∙◌, subst}
-use Rattle.std.specs.Prelude.{◌==◌}
+use Rattle.std.proofs.Common.{◌≡◌, ℕ, Bool, true, false, cond, not, List, [], Option, Some, None, sym, ap, ◌∙◌, subst}
 use Rattle.std.proofs.lemmas.Bool.{not-true}
 use Rattle.zr_id.specs.declared.link.LinkNo.{LinkNo}
 use Rattle.zr_msg.specs.declared.content.Parts.{Parts}
@@ -11,10 +10,11 @@ use Rattle.zr_msg.specs.declared.msg.Msg.TheVariants.{Push}
 use Rattle.zr_local.specs.Clients.{interests_on}
 use Rattle.zr_node_spec.specs.Tables.{TableState, leads_to_client}
 use Rattle.zr_node_spec.specs.State.{NodeState, tables}
-use Rattle.zr_told_spec.specs.Hub.{HubState, asking_of, asking_on, tells_with, told_with, sends_told, told_after, by_link}
+use Rattle.zr_told_spec.specs.Hub.{HubState, sends_told, told_after, by_link}
 use Rattle.zr_told_spec.specs.Rows.{Maps, map_on, others, IsAsWanted}
 use Rattle.zr_told_spec.specs.Told.{ToldMap}
-use Rattle.zr_told_spec.proofs.Events.{nothing_is_told, nothing_told}
+use Rattle.zr_told_spec.proofs.Calm.{told_stays as sample_stays, untold as sample_untold}
+use Rattle.zr_told_spec.proofs.Events.{nothing_told}
 use Rattle.zr_router_core.specs.Calm.{IsCalm}
 use Rattle.zr_router_core.specs.Done.{hub_of}
 use Rattle.zr_router_core.specs.Right.{IsSound, spent_as}
@@ -27,33 +27,21 @@ module _ (n : NodeState) (told : Maps) (sound : IsSound n told) (l : LinkNo) (tr
   abbrev t : TableState
   t = tables n
 
-  unasked : (k : ℕ) → asking_on event k ≡ None
-  unasked k = by (l.0 == k)
-    where
-      by : (b : Bool) → cond b (asking_of (Push tree content)) None ≡ None
-      by true = refl
-      by false = refl
-
   -- what a client was told, as is seen of it
   abbrev was : ℕ → ToldMap
   was k = map_on (hub_of n told).told k
 
-  wanted : (k : ℕ) → IsAsWanted (others t k) (interests_on t.clients k) (was k)
-  wanted k = subst (IsAsWanted (others t k) (interests_on t.clients k)) (sym (seen n told sound k)) (sound.right.wanted k)
+  wanted : (k : ℕ) → leads_to_client t.links k ≡ true → IsAsWanted (others t k) (interests_on t.clients k) (was k)
+  wanted k h = subst (IsAsWanted (others t k) (interests_on t.clients k)) (sym (seen n told sound k)) (sound.right.wanted k)
+
+  forgotten : (k : ℕ) → leads_to_client t.links k ≡ false → was k ≡ []
+  forgotten k h = seen n told sound k ∙ nothing_told (others t k) (map_on told k) (subst (λ is. IsAsWanted (others t k) is (map_on told k)) (sound.right.clients k h) (sound.right.wanted k))
 
   told_stays : (k : ℕ) → told_after t was event k ≡ map_on told k
-  told_stays k = by (leads_to_client t.links k) refl
-    where
-      by : (b : Bool) → leads_to_client t.links k ≡ b → cond b (told_with t (was k) k (asking_on event k)) [] ≡ map_on told k
-      by true h = ap (told_with t (was k) k) (unasked k) ∙ (nothing_is_told (others t k) (interests_on t.clients k) (was k) (wanted k)).1 ∙ seen n told sound k
-      by false h = sym (nothing_told (others t k) (map_on told k) (subst (λ is. IsAsWanted (others t k) is (map_on told k)) (sound.right.clients k h) (sound.right.wanted k)))
+  told_stays k = sample_stays t was wanted forgotten l tree content k ∙ seen n told sound k
 
   untold : (k : ℕ) → sends_told t (was k) event k ≡ []
-  untold k = by (leads_to_client t.links k)
-    where
-      by : (b : Bool) → cond b (tells_with t (was k) k (asking_on event k)) [] ≡ []
-      by true = ap (tells_with t (was k) k) (unasked k) ∙ (nothing_is_told (others t k) (interests_on t.clients k) (was k) (wanted k)).0
-      by false = refl
+  untold k = sample_untold t was wanted forgotten l tree content k
 
 hub_is_calm : (n : NodeState) (told : Maps) → IsSound n told → IsCalm (hub_of n told)
 hub_is_calm n told sound l tree content = record {
