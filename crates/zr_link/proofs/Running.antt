@@ -37,12 +37,13 @@ use Rattle.zr_link.specs.Acts.{Act, Does, up, down, froms}
 use Rattle.zr_port.specs.Coming.{Answering, Sight, sight, AddsOne, delivered}
 use Rattle.zr_outside.specs.Told.{Appends}
 use Rattle.zr_outside.proofs.Appending.{appends_both}
+use Rattle.zr_outside.proofs.Counting.{rose_since}
 use Rattle.zr_link.specs.Heard.{Takes, AreMessages, messages, HearsOn, HearsSomeOn, IsOpen, IsUnopened, IsIn, IsBegun, first_of}
 use Rattle.zr_link.specs.Written.{Gives, Answered, IsWritten, Wrote, WroteAnswers, close_with}
 use Rattle.zr_link.specs.Gone.{IsGone}
 use Rattle.zr_link.specs.Run.{EarlyEnds, NotTaken, Enters, GoesDown, Runs}
 use Rattle.zr_link.proofs.Hearing.{takes_none, takes_then, as_before, answers_stay}
-use Rattle.zr_link.proofs.Unopened.{written_more, rose_before}
+use Rattle.zr_link.proofs.Unopened.{written_more}
 use Rattle.zr_port.proofs.Coming.{looks_self, adds_one}
 use Rattle.zr_link.proofs.Going.{does_none, does_then, added_does, through_does, does_entry, are_messages, ends_map, early_ends, Followed}
 
@@ -75,7 +76,7 @@ pub wrote_more : {K : Type 0} (held : K → Option (List ℕ)) (faults : K → �
     → Wrote held faults e ys mid r → Wrote held faults e (xs ++ ys) old r
 wrote_more held faults e xs ys old mid None a same h = (h.0, appends_both xs ys (held old) (held mid) (held h.0) a h.1, h.2 ∙ same)
 wrote_more held faults e xs ys old mid (Some new) a same h =
-    written_more e xs ys (held old) (held mid) (held new) _ _ a (λ k. rose_before (faults old) (faults mid) (faults new) (omega (arith, same)) k) h
+    written_more e xs ys (held old) (held mid) (held new) _ _ a (λ k. rose_since (faults old) (faults mid) (faults new) (omega (arith, same)) k) h
 
 -- the same in three parts
 pub wrote_parts : {K : Type 0} (held : K → Option (List ℕ)) (faults : K → ℕ) (e : LinkEnd) (first xs ys owed : List ℕ) (old mid last : K) (r : Option K) → Appends first (held old) (held mid) → faults mid ≡ faults old

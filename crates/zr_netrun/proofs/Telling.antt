@@ -1,11 +1,10 @@
 -- What is told when the loop has ended: at each of its exits the report is that of the bytes that were read.
-use Rattle.std.proofs.Common.{◌≡◌, ℕ, ◌-◌, ◌<◌, ◌≤◌, ◌||◌, min, Bool, true, false, List, [], ◌++◌, length, take, Option, Some, None, is_some, Result, Ok, Err, refl, sym, ap, ◌∙◌, inl, inr, arith, subst}
+use Rattle.std.proofs.Common.{◌≡◌, ℕ, ◌-◌, ◌<◌, ◌≤◌, ◌||◌, min, Bool, true, false, List, [], ◌++◌, length, take, Option, Some, None, is_some, Result, Ok, Err, refl, sym, ap, ◌∙◌, inr, arith, subst}
 use Rattle.std.specs.List.{fold}
 use Rattle.std.proofs.lemmas.List.Sums.{fold-append}
 use Rattle.std.proofs.lemmas.Bool.Decides.{nat_tests}
 use Rattle.std.proofs.lemmas.List.{length-append, length-take, take_all}
 use Rattle.std.proofs.lemmas.Bool.{false≢true}
-use Rattle.zr_outside.specs.Piece.{IsReadToEnd}
 use Rattle.zr_outside.specs.Told.{IsAsBefore, Appends, AppendsPrefix, Consumes}
 use Rattle.zr_outside.proofs.Appending.{prefix_whole}
 use Rattle.zr_script_spec.specs.Lines.{most_bytes, most_kept, ended_lines, open_line, unless_empty, lines}
@@ -122,11 +121,6 @@ fails_reading x InputEnded left now next total k a b e e' h same most err =
       λ t. absurd (false≢true t),
       (refl, ap (λ r. is_some r || is_too_long read) at.refusal ∙ within_limit, text_out (judged false read) (take most_kept (open_line read)) k a b at p.flushed, as_before e e' err),
     ))
-
--- what was read to its end since some moment was so since an earlier one
-pub ended_later : (ends later ends' quiets later_quiets quiets' : ℕ) → ends ≤ later → quiets ≤ later_quiets → IsReadToEnd later ends' later_quiets quiets' → IsReadToEnd ends ends' quiets quiets'
-ended_later ends later ends' quiets later_quiets quiets' e q (inl rose) = inl (omega (arith, e, rose))
-ended_later ends later ends' quiets later_quiets quiets' e q (inr waited) = inr (omega (arith, q, waited))
 
 -- the last line of a script that has ended
 last_line : (read : List ℕ) (k m : Kept) (total : ℕ) (a b c : Option (List ℕ)) (result : Result (Unit {0}) RunStop) → IsAfter k total a b read →

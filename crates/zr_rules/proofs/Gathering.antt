@@ -1,6 +1,5 @@
 -- Bytes that are gathered piece by piece.
-use Rattle.zr_outside.specs.Piece.{IsReadToEnd}
-use Rattle.std.proofs.Common.{arith, inl, inr, ◌≡◌, ℕ, ◌≤◌, List, [], ◌++◌, take, drop, Option, Some, None, Err, refl, sym, ap, ◌∙◌, append_assoc}
+use Rattle.std.proofs.Common.{◌≡◌, ℕ, List, [], ◌++◌, take, drop, Option, Some, None, Err, refl, sym, ap, ◌∙◌, append_assoc}
 use Rattle.zr_outside.specs.Told.{Consumes}
 use Rattle.zr_rules.specs.declared.rules.RulesError.{RulesError}
 use Rattle.zr_rules.specs.declared.rules.RulesError.TheVariants.{Refused, TooLong, ReadFault, NoMemory}
@@ -28,8 +27,3 @@ fails_gathered Ended (Refused line fault shown) a b h = absurd h.2
 fails_gathered Ended TooLong a b h = h
 fails_gathered Ended ReadFault a b h = h
 fails_gathered Ended NoMemory a b h = h
-
--- an end that is found later is found
-pub ended_later : (ends ends' ends'' quiets quiets' quiets'' : ℕ) → ends ≤ ends' → quiets ≤ quiets' → IsReadToEnd ends' ends'' quiets' quiets'' → IsReadToEnd ends ends'' quiets quiets''
-ended_later ends ends' ends'' quiets quiets' quiets'' h k (inl e) = inl (omega (arith, h, e))
-ended_later ends ends' ends'' quiets quiets' quiets'' h k (inr e) = inr (omega (arith, k, e))

@@ -75,7 +75,7 @@ fn refused(alloc: Global, text: &[u8], line: u64, fault: PolicyFault) -> RulesEr
 }
 
 // All bytes of an input, unless they are too many.
-#[tactic(auto, using(crate::proofs::Gathering::gathers_none, crate::proofs::Gathering::gathers_more, crate::proofs::Gathering::ended_later, crate::proofs::Gathering::of_gathered))]
+#[tactic(auto, using(crate::proofs::Gathering::gathers_none, crate::proofs::Gathering::gathers_more, zr_outside::proofs::Counting::ended_since, crate::proofs::Gathering::of_gathered))]
 fn gather<S: Source>(input: &mut S, text: &mut Vec<u8>) -> Result<(), RulesError>
     requires empty { text.old.items ≡ [] }
     ensures gathered { OfBytes (S.left input.old) (S.left input.new) (IsGathered (IsReadToEnd (S.ends input.old) (S.ends input.new) (S.quiets input.old) (S.quiets input.new)) result) }

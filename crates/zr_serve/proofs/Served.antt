@@ -4,7 +4,7 @@ use Rattle.std.proofs.lemmas.Bool.{false≢true, true≢false}
 use Rattle.std.proofs.lemmas.List.Elements.{All-nil}
 use Rattle.rand_core.specs.Stream.{Stream}
 use Rattle.zr_access.specs.Rules.{PolicyState}
-use Rattle.zr_outside.proofs.Counting.{rose_not}
+use Rattle.zr_outside.proofs.Counting.{rose_not, rose_since}
 use Rattle.zr_outside.specs.Counts.{Rose}
 use Rattle.zr_outside.specs.Host as host
 use Rattle.zr_outside.specs.Told.{Appends, AppendsPrefix}
@@ -25,12 +25,12 @@ use Rattle.zr_serve.specs.Moments.{Moment, moment, Serves, BreaksOff}
 use Rattle.zr_serve.specs.Serving.{Says, Outputs, outputs, CutsOff, Comes, Drew, DrewNone, IsServed, IsServedFrom, EndsBefore, Accepts}
 use Rattle.zr_serve.specs.Space.{Space, Begins}
 use Rattle.zr_serve.specs.Unsaid.{end_of_unsaid}
-use Rattle.zr_serve.proofs.Reaching.{listened, rose_later, cut_off_dialling, comes}
+use Rattle.zr_serve.proofs.Reaching.{listened, cut_off_dialling, comes}
 use Rattle.zr_serve.proofs.Stepping.{whole_is_part}
 
 says_later : (line : List ℕ) (h h' : Option (List ℕ)) (a b c : ℕ) → a ≤ b → Says line h h' b c → Says line h h' a c
 says_later line h h' a b c le (inl said) = inl said
-says_later line h h' a b c le (inr part) = inr (part.0, rose_later a b c le part.1)
+says_later line h h' a b c le (inr part) = inr (part.0, rose_since a b c le part.1)
 
 -- a count that stood still, never fell and then rose
 pub rose_behind : (a b c d : ℕ) → b ≡ a → b ≤ c → Rose c d → Rose a d
@@ -51,7 +51,7 @@ rose_same a b c d same same_too rose = omega arith
 -- one of two outputs failed, of which one has also served before
 pub rose_either : (a b c f g : ℕ) → f ≤ g → Rose a b ⊎ Rose g c → Rose a b ⊎ Rose f c
 rose_either a b c f g le (inl out) = inl out
-rose_either a b c f g le (inr err) = inr (rose_later f g c le err)
+rose_either a b c f g le (inr err) = inr (rose_since f g c le err)
 
 -- where neither count has changed
 pub none_rose : {A B : Type 0} (a b : ℕ) → (a < a → A) × (b < b → B)

@@ -5,7 +5,7 @@ use Rattle.zr_script_spec.specs.Lines.{ended_lines}
 use Rattle.zr_script_spec.specs.Report.{too_long_text}
 use Rattle.zr_outside.specs.Piece.{IsReadToEnd}
 use Rattle.zr_outside.specs.Told.{Consumes}
-use Rattle.zr_outside.proofs.Counting.{counted_same}
+use Rattle.zr_outside.proofs.Counting.{counted_same, ended_since}
 use Rattle.zr_netrun_lines.specs.Kept.{Kept, fresh, writes}
 use Rattle.zr_netrun_lines.specs.Possible.{StepsGo}
 use Rattle.zr_netrun_lines.proofs.Writing.{seen_at, seen_stopped}
@@ -13,7 +13,7 @@ use Rattle.zr_netrun_lines.proofs.Going.{goes_behind}
 use Rattle.zr_netrun.specs.Told.{Tells, Complains}
 use Rattle.zr_netrun.specs.Judged.{refusal_told}
 use Rattle.zr_netrun.proofs.Reading.{after_nothing, reads_piece, seen_tells}
-use Rattle.zr_netrun.proofs.Telling.{stops_reading, passes_limit, still_after, fails_reading, ended_later, ends_done, ends_reading, stops_at_end, not_done, fault_not_done}
+use Rattle.zr_netrun.proofs.Telling.{stops_reading, passes_limit, still_after, fails_reading, ends_done, ends_reading, stops_at_end, not_done, fault_not_done}
 use Rattle.zr_outside.proofs.Counting.{rose_not}
 use Rattle.zr_netrun.proofs.Failing.{stop_told}
 use Rattle.zr_netrun.proofs.netrun.run_lines.Goals as goal
@@ -87,13 +87,13 @@ reading-preserved g c =
 pub returns-in-Ok-finish-clause-report : goal.returns-in-Ok-finish-clause-report
 returns-in-Ok-finish-clause-report g c =
     ends_reading c.args.options.explain _ _ _ c.reading.total c.reading.runner c.finish.new.self _ _ _ _ _ _
-    (ended_later _ _ _ _ _ _ c.reading.invariant.ends c.reading.invariant.quiets (c.in-End.ensures.whole refl))
+    (ended_since _ _ _ _ _ _ c.reading.invariant.ends c.reading.invariant.quiets (c.in-End.ensures.whole refl))
     (still_after _ _ _ _ _ _ _ c.reading.invariant.read c.in-End.ensures.bytes) c.reading.invariant.most
     (seen_at (writes c.reading.runner) (writes c.args.runner.now) _ _ _ _ _ _ c.reading.invariant.mode c.in-Ok-finish.ensures.turn) c.in-Ok-finish.ensures.counts c.in-Ok-finish.ensures.flushed c.reading.invariant.err_same
 
 pub returns-in-Ok-finish-clause-ends : goal.returns-in-Ok-finish-clause-ends
 returns-in-Ok-finish-clause-ends g c = ends_done _ _ _ _ _ _ _
-    (ended_later _ _ _ _ _ _ c.reading.invariant.ends c.reading.invariant.quiets (c.in-End.ensures.whole refl))
+    (ended_since _ _ _ _ _ _ c.reading.invariant.ends c.reading.invariant.quiets (c.in-End.ensures.whole refl))
     (omega (arith, c.in-End.ensures.failed.later, c.reading.invariant.input)) (omega (arith, c.in-Ok-finish.ensures.later, c.reading.invariant.out)) (omega (arith, c.reading.invariant.err))
 
 pub returns-in-Err-finish-clause-report : goal.returns-in-Err-finish-clause-report
@@ -103,7 +103,7 @@ returns-in-Err-finish-clause-report g c =
     not_done c.args.options.explain _ _ _ _ _ _ _ _ _ c.tell-in-Err-finish.ensures.stops
     (stops_at_end c.args.options.explain (IsReadToEnd (g.S.Source.ends c.args.input.now) (g.S.Source.ends c.next_piece.new.input) (g.S.Source.quiets c.args.input.now) (g.S.Source.quiets c.next_piece.new.input))
     _ _ c.reading.total c.reading.runner c.finish.new.self _ _ _ _ _ _ c.in-Err-finish.stop c.tell-in-Err-finish.result
-    (ended_later _ _ _ _ _ _ c.reading.invariant.ends c.reading.invariant.quiets (c.in-End.ensures.whole refl))
+    (ended_since _ _ _ _ _ _ c.reading.invariant.ends c.reading.invariant.quiets (c.in-End.ensures.whole refl))
     (still_after _ _ _ _ _ _ _ c.reading.invariant.read c.in-End.ensures.bytes) c.reading.invariant.most
     (seen_stopped (writes c.reading.runner) (writes c.args.runner.now) _ _ _ _ _ _ c.reading.invariant.mode c.in-Err-finish.ensures.turn) c.in-Err-finish.ensures.refused (seen_tells (writes c.args.runner.now) _ _ _ _ _ _ _ _ told))
 

@@ -3,12 +3,12 @@ use Rattle.std.proofs.Common.{◌∙◌, ◌<◌, ap, Err, None, le_refl, le_tra
 use Rattle.std.proofs.lemmas.Bool.{false≢true}
 use Rattle.std.specs.Arc.{arc_value}
 use Rattle.zr_hist.specs.Words.{seen}
-use Rattle.zr_outside.proofs.Counting.{rose_not}
+use Rattle.zr_outside.proofs.Counting.{rose_not, rose_since}
 use Rattle.zr_outside.proofs.Appending.{appends_none}
 use Rattle.zr_serve.specs.Links.{links_of}
 use Rattle.zr_serve.specs.Unsaid.{end_of_unsaid}
 use Rattle.zr_serve.proofs.Former.{asked_on, cut_on, tells_still, stops_uses, stops_unfailed, still_heard, unsaid_by, unsaid_undone, unsaid_unfailed, unsaid_uses}
-use Rattle.zr_serve.proofs.Reaching.{goes_more, goes_none, goes_on_to, goes_same, goes_spent, goes_unsaid, rose_later}
+use Rattle.zr_serve.proofs.Reaching.{goes_more, goes_none, goes_on_to, goes_same, goes_spent, goes_unsaid}
 use Rattle.zr_serve.proofs.service.accept_all.Goals as goal
 
 pub loop-init : goal.loop-init
@@ -58,8 +58,8 @@ returns-in-Err-accept-clause-told g c =
 
 pub returns-in-Err-accept-clause-cause : goal.returns-in-Err-accept-clause-cause
 returns-in-Err-accept-clause-cause g c = (
-  λ e. rose_later _ _ _ c.loop.invariant.2 (c.in-Err-accept.ensures.done (ap Err e)),
-  λ e. rose_later _ _ _ c.loop.invariant.1 (c.in-Err-accept.ensures.host (ap Err e)),
+  λ e. rose_since _ _ _ c.loop.invariant.2 (c.in-Err-accept.ensures.done (ap Err e)),
+  λ e. rose_since _ _ _ c.loop.invariant.1 (c.in-Err-accept.ensures.host (ap Err e)),
   λ e. absurd (stops_unfailed c.in-Err-accept.end _ _ (c.in-Err-accept.ensures.stops None) e),
 )
 

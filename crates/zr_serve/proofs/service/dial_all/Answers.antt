@@ -1,5 +1,6 @@
 use Rattle.std.proofs.Common.{◌<◌, ◌≡◌, ◌∙◌, length, le_trans, arith, subst, sym}
-use Rattle.zr_serve.proofs.Reaching.{dials_all_at, dials_more_at, dials_stop, rose_later}
+use Rattle.zr_outside.proofs.Counting.{rose_since}
+use Rattle.zr_serve.proofs.Reaching.{dials_all_at, dials_more_at, dials_stop}
 use Rattle.zr_serve.proofs.service.dial_all.Goals as goal
 
 pub returns-in-Err-clause-stopped : goal.returns-in-Err-clause-stopped
@@ -20,7 +21,7 @@ loop-target-preserved g c = (
 )
 
 pub returns-in-Err-clause-cause : goal.returns-in-Err-clause-cause
-returns-in-Err-clause-cause g c = (c.in-Err.ensures.cause.0, c.in-Err.ensures.cause.1, λ e. rose_later _ _ _ c.loop-target.invariant.1 (c.in-Err.ensures.cause.2 e))
+returns-in-Err-clause-cause g c = (c.in-Err.ensures.cause.0, c.in-Err.ensures.cause.1, λ e. rose_since _ _ _ c.loop-target.invariant.1 (c.in-Err.ensures.cause.2 e))
 
 pub returns-in-Err-clause-later : goal.returns-in-Err-clause-later
 returns-in-Err-clause-later g c = (
