@@ -9,7 +9,7 @@ use Rattle.zr_outside.specs.Told.{Tells}
 use Rattle.zr_link.specs.declared.log.LinkLog.{LinkLog}
 use Rattle.zr_link.specs.Log.{log_held, log_lost, stage_of, writer_line}
 
--- The last turn told that the outlet has ended so; or all turns were taken; or none was, for want of memory.
+-- The last turn told that the outlet has ended so; or all turns were taken; or none was, out of memory.
 abbrev pub EndsByTurns : WriterTurns → WriterEnd → Type 0
 EndsByTurns turns end = (last_turn turns ≡ Some (Ended end)) ⊎ ((end ≡ Turns) × (turns_taken turns ≡ turns_most turns))
     ⊎ ((end ≡ NoMemory) × (turns_taken turns ≡ 0))

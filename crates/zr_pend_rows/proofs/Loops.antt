@@ -1,5 +1,5 @@
 -- What one more step of a loop leaves to be done: of the links of a request, of the rows that are copied, and of the branches that end.
-use Rattle.std.proofs.Common.{◌≡◌, ℕ, ◌+◌, ◌<◌, ◌||◌, Bool, true, false, List, [], ◌∷◌, ◌++◌, map, length, drop, get_or, Option, refl, sym, ap, ◌∙◌, append_assoc}
+use Rattle.std.proofs.Common.{◌≡◌, ℕ, ◌+◌, ◌<◌, Bool, false, List, [], ◌∷◌, ◌++◌, map, length, drop, get_or, Option, sym, ap, ◌∙◌, append_assoc}
 use Rattle.std.specs.List.{list_any}
 use Rattle.std.specs.Option.{option_to_list}
 use Rattle.std.proofs.lemmas.List.{drop_more}
@@ -23,27 +23,6 @@ opened_more rows to i d bs news n lt is e h =
 -- where none of those that are left passes, none does behind the first of them
 pub none_more : (p : LinkNo → Bool) (to : List LinkNo) (i : ℕ) (d : LinkNo) → i < length to → list_any p (drop i to) ≡ false → list_any p (drop (i + 1) to) ≡ false
 none_more p to i d lt h = right_false _ _ (ap (λ ls. list_any p ls) (sym (drop_more to i d lt)) ∙ h)
-
--- the numbers of one row more are in use
-pub used_more : (p : RowState → Bool) (rows : List RowState) (i : ℕ) (r : RowState) (was new all : Bool) → i < length rows → r ≡ get_or rows i r → new ≡ (p r || was) →
-    (list_any p (drop i rows) || was) ≡ all → (list_any p (drop (i + 1) rows) || new) ≡ all
-used_more p rows i r was new all lt is e h =
-    ap (λ t. list_any p (drop (i + 1) rows) || t) e
-    ∙ swap (list_any p (drop (i + 1) rows)) (p r)
-    ∙ ap (λ (q : RowState). (p q || list_any p (drop (i + 1) rows)) || was) is
-    ∙ ap (λ rs. list_any p rs || was) (sym (drop_more rows i r lt))
-    ∙ h
-  where
-    swap : (s t : Bool) → (s || (t || was)) ≡ ((t || s) || was)
-    swap true true = refl
-    swap true false = refl
-    swap false true = refl
-    swap false false = refl
-
--- no number is in use at first
-pub none_used : (t : Bool) → (t || false) ≡ t
-none_used true = refl
-none_used false = refl
 
 -- one branch more has ended
 module _ (link : LinkNo) (numbers : List ℕ) (i d : ℕ) (rows news : List RowState) (lt : i < length numbers) (e : news ≡ ended rows (branch link (get_or numbers i d))) where

@@ -10,7 +10,7 @@ use std::marker::Model;
 use zr_id::zid::Zid;
 use zr_msg::decl::Kind;
 use zr_msg::msg::Msg;
-use zr_world_numbers::numbers::Numbers;
+use zr_world_numbers::numbers::ClientNumbers;
 
 /// How many queries of a client are open at most.
 const MOST_QUERIES: usize = 4096;
@@ -23,8 +23,8 @@ pub struct Client {
     ables: Vec<u32>,
     tokens: Vec<u32>,
     interests: Vec<u32>,
-    queries: Numbers,
-    requests: Numbers,
+    queries: ClientNumbers,
+    requests: ClientNumbers,
 }
 
 impl Model for Client {
@@ -46,8 +46,8 @@ impl Client {
             ables: Vec::new(alloc),
             tokens: Vec::new(alloc),
             interests: Vec::new(alloc),
-            queries: Numbers::new(alloc),
-            requests: Numbers::new(alloc),
+            queries: ClientNumbers::new(alloc),
+            requests: ClientNumbers::new(alloc),
         }
     }
 

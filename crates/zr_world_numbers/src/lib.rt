@@ -1,4 +1,4 @@
-//! Numbers in the order in which they came, each of which is found by an index.
+//! ClientNumbers in the order in which they came, each of which is found by an index.
 #![tactic(auto)]
 
 pub mod numbers;

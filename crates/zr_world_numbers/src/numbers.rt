@@ -1,4 +1,4 @@
-//! `Numbers`: numbers in the order in which they came.
+//! `ClientNumbers`: numbers in the order in which they came.
 
 ghost use Rattle.std.specs.Prelude.{◌≡◌, ◌==◌, ◌≤◌, ◌<◌, ◌+◌, ◌++◌, ◌∷◌, ℕ, [], None, not, map, filter, length, slice_index_or, if◌then◌else◌, IfSome, OnOk, OnErr};
 ghost use Rattle.std.specs.List.{list_any};
@@ -8,12 +8,12 @@ use std::alloc::{AllocError, Global};
 use std::collections::{BTreeMap, VecDeque};
 use std::marker::Model;
 
-/// Numbers in the order in which they came.
+/// ClientNumbers in the order in which they came.
 ///
 /// To look for one takes time by the logarithm of how many there are. So does taking one away that stands once, but that those on one side of it
 /// move, where they are fewer.
 #[derive(Debug, Drop)]
-pub struct Numbers {
+pub struct ClientNumbers {
     items: VecDeque<Item>,
     index: BTreeMap<u32, Entry>,
     // the place of the number that comes next
@@ -34,7 +34,7 @@ struct Entry {
     place: u64,
 }
 
-impl Model for Numbers {
+impl Model for ClientNumbers {
     ghost use Rattle.std.specs.Prelude.{ℕ, List, map};
     ghost use Rattle.zr_world_numbers.specs.Index.{IsIndex};
 
@@ -45,12 +45,12 @@ impl Model for Numbers {
     ghost invariant = { λ n. IsIndex n.index.entries (map (λ i. i.number) n.items.items) };
 }
 
-impl Numbers {
+impl ClientNumbers {
     /// No number. It takes no memory.
-    pub fn new(alloc: Global) -> Numbers
+    pub fn new(alloc: Global) -> ClientNumbers
         ensures { result ≡ [] }
     {
-        Numbers {
+        ClientNumbers {
             items: VecDeque::new(alloc),
             index: BTreeMap::new(alloc),
             next: 0,

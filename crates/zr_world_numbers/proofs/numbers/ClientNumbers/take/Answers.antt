@@ -2,7 +2,7 @@ use Rattle.std.proofs.Common.{◌≡◌, map, sym, ap, ◌∙◌}
 use Rattle.zr_world_numbers.specs.declared.numbers.Item.{Item}
 use Rattle.zr_world_numbers.specs.Index.{how_often}
 use Rattle.zr_world_numbers.proofs.Counted.{index_taken, none_goes, others}
-use Rattle.zr_world_numbers.proofs.numbers.Numbers.take.Goals as goal
+use Rattle.zr_world_numbers.proofs.numbers.ClientNumbers.take.Goals as goal
 
 pub invariant_of-self : goal.invariant_of-self
 invariant_of-self c = λ k.

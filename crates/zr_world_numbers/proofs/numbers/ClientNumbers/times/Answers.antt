@@ -4,7 +4,7 @@ use Rattle.std.specs.Option.{option_map_or}
 use Rattle.std.specs.Ordering.{nat_cmp}
 use Rattle.zr_world_numbers.specs.declared.numbers.Entry.{Entry}
 use Rattle.zr_world_numbers.specs.Index.{how_often}
-use Rattle.zr_world_numbers.proofs.numbers.Numbers.times.Goals as goal
+use Rattle.zr_world_numbers.proofs.numbers.ClientNumbers.times.Goals as goal
 
 pub returns-in-Some : goal.returns-in-Some
 returns-in-Some c =

@@ -3,7 +3,7 @@ use Rattle.std.proofs.lemmas.List.{map-append}
 use Rattle.zr_world_numbers.specs.declared.numbers.Item.{Item}
 use Rattle.zr_world_numbers.specs.Index.{how_often}
 use Rattle.zr_world_numbers.proofs.Counted.{index_pushed}
-use Rattle.zr_world_numbers.proofs.numbers.Numbers.push.Goals as goal
+use Rattle.zr_world_numbers.proofs.numbers.ClientNumbers.push.Goals as goal
 
 pub invariant_of-self-2 : goal.invariant_of-self-2
 invariant_of-self-2 c =
