@@ -1,5 +1,5 @@
-//! Laws on what a router sends: it is of a kind, where what came to it is. So a message that may be passed on goes on as one, in every tree and
-//! under every number. And such a message may be sent, by what the types of its parts keep.
+//! Which messages may be passed on, and the law that they may be sent, by what the types of their parts keep. Lemmas on what a router sends stand
+//! in its proofs (`Sent`): it may be passed on, where what came to the router may.
 #![tactic(auto)]
 
 mod types;

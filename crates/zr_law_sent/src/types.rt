@@ -17,14 +17,13 @@ use zr_msg::decl::Decl;
 use zr_msg::extras::Extras;
 use zr_msg::msg::Msg;
 
-/// Ids are of 32 bits and numbers of 64; keys, identifiers and records are such.
+/// Ids are of 32 bits and numbers of 64. Keys are texts of expressions. Identifiers and records are as their types keep them.
 pub fn of_types(msg: &Msg)
     ensures { IsOfTypes msg.now }
 {
     match msg {
         Msg::Sub { id, key } | Msg::Token { id, key } | Msg::Able { id, key, .. } => {
-            is_id(*id);
-            is_key(key);
+            of_declared(*id, key)
         }
         Msg::Unsub { id }
         | Msg::Untoken { id }
@@ -33,11 +32,8 @@ pub fn of_types(msg: &Msg)
         | Msg::ToldUnsub { id }
         | Msg::ToldUntoken { id }
         | Msg::ToldUnable { id }
-        | Msg::ToldEnd { interest: id } => is_id(*id),
-        Msg::Interest { id, key, .. } => {
-            is_id(*id);
-            is_some_key(key);
-        }
+        | Msg::ToldEnd { interest: id } => of_id(*id),
+        Msg::Interest { id, key, .. } => of_interest(*id, key),
         Msg::ToldSub { id, key, interest }
         | Msg::ToldToken { id, key, interest }
         | Msg::ToldAble {
@@ -45,89 +41,143 @@ pub fn of_types(msg: &Msg)
             key,
             interest,
             ..
-        } => {
-            is_id(*id);
-            is_key(key);
-            is_some_id(*interest);
-        }
-        Msg::Push { tree, content } => {
-            is_some_zid(tree);
-            is_content(content);
-        }
+        } => of_told(*id, key, *interest),
+        Msg::Push { tree, content } => of_push(tree, content),
         Msg::Request {
             tree,
             id,
             content,
             ..
-        } => {
-            is_some_zid(tree);
-            is_content(content);
-            is_id(*id);
-        }
-        Msg::Response { id, content } => {
-            is_content(content);
-            is_id(*id);
-        }
-        Msg::Final { id, extras } => {
-            are_numbers(extras.get());
-            is_id(*id);
-        }
-        Msg::State { links } => is_record(links.get()),
-        Msg::Step { source, decl, .. } => {
-            is_zid(source);
-            is_decl(decl.get());
-        }
-        Msg::Snap { source, decls, .. } => {
-            is_zid(source);
-            are_decls(decls.as_slice());
-        }
+        } => of_request(tree, *id, content),
+        Msg::Response { id, content } => of_response(*id, content),
+        Msg::Final { id, extras } => of_final(*id, extras.get()),
+        Msg::State { links } => of_record(links.get()),
+        Msg::Step { source, decl, .. } => of_step(source, decl.get()),
+        Msg::Snap { source, decls, .. } => of_snapshot(source, decls.as_slice()),
     }
 }
 
-fn is_id(id: u32)
+fn of_declared(id: u32, key: &KeyExpr)
+    ensures id { IsId id }
+    ensures key { IsKey key.now }
+{
+    of_id(id);
+    of_key(key);
+}
+
+fn of_interest(id: u32, key: &Option<KeyExpr>)
+    ensures id { IsId id }
+    ensures key { IsSomeKey key.now }
+{
+    of_id(id);
+    of_some_key(key);
+}
+
+fn of_told(id: u32, key: &KeyExpr, interest: Option<u32>)
+    ensures id { IsId id }
+    ensures key { IsKey key.now }
+    ensures interest { IsSomeId interest }
+{
+    of_declared(id, key);
+    of_some_id(interest);
+}
+
+fn of_push(tree: &Option<Zid>, content: &Content)
+    ensures tree { IsSomeZid tree.now }
+    ensures numbers { NumbersFit content.now.extras }
+    ensures key { IsKey content.now.key }
+{
+    of_some_zid(tree);
+    of_content(content);
+}
+
+fn of_request(tree: &Option<Zid>, id: u32, content: &Content)
+    ensures tree { IsSomeZid tree.now }
+    ensures id { IsId id }
+    ensures numbers { NumbersFit content.now.extras }
+    ensures key { IsKey content.now.key }
+{
+    of_push(tree, content);
+    of_id(id);
+}
+
+fn of_response(id: u32, content: &Content)
+    ensures id { IsId id }
+    ensures numbers { NumbersFit content.now.extras }
+    ensures key { IsKey content.now.key }
+{
+    of_content(content);
+    of_id(id);
+}
+
+fn of_final(id: u32, extras: &Extras)
+    ensures id { IsId id }
+    ensures numbers { NumbersFit extras.now }
+{
+    of_numbers(extras);
+    of_id(id);
+}
+
+fn of_step(source: &Zid, decl: &Decl)
+    ensures source { is_zid source.now ≡ true }
+    ensures decl { is_decl decl.now ≡ true }
+{
+    of_zid(source);
+    of_decl(decl);
+}
+
+fn of_snapshot(source: &Zid, decls: &[Decl])
+    ensures source { is_zid source.now ≡ true }
+    ensures decls { list_all is_decl decls.now ≡ true }
+{
+    of_zid(source);
+    of_decls(decls);
+}
+
+fn of_id(id: u32)
     ensures { IsId id }
 {
     let _ = id;
 }
 
-fn is_some_id(id: Option<u32>)
+fn of_some_id(id: Option<u32>)
     ensures { IsSomeId id }
 {
     if let Some(id) = id {
-        is_id(id);
+        of_id(id);
     }
 }
 
 #[tactic(auto, using(crate::proofs::Keys::text_is_key))]
-fn is_key(key: &KeyExpr)
+fn of_key(key: &KeyExpr)
     ensures { IsKey key.now }
 {
     let _ = key.text();
 }
 
-fn is_some_key(key: &Option<KeyExpr>)
+fn of_some_key(key: &Option<KeyExpr>)
     ensures { IsSomeKey key.now }
 {
     if let Some(key) = key {
-        is_key(key);
+        of_key(key);
     }
 }
 
-fn is_zid(id: &Zid)
+fn of_zid(id: &Zid)
     ensures { is_zid id.now ≡ true }
 {
     let _ = id.bytes();
 }
 
-fn is_some_zid(id: &Option<Zid>)
+fn of_some_zid(id: &Option<Zid>)
     ensures { IsSomeZid id.now }
 {
     if let Some(id) = id {
-        is_zid(id);
+        of_zid(id);
     }
 }
 
-fn is_number(number: Option<u64>)
+fn of_number(number: Option<u64>)
     ensures { NumberFits number }
 {
     if let Some(number) = number {
@@ -135,61 +185,61 @@ fn is_number(number: Option<u64>)
     }
 }
 
-fn are_numbers(extras: &Extras)
+fn of_numbers(extras: &Extras)
     ensures { NumbersFit extras.now }
 {
-    is_number(extras.qos);
-    is_number(extras.budget);
-    is_number(extras.timeout);
+    of_number(extras.qos);
+    of_number(extras.budget);
+    of_number(extras.timeout);
 }
 
-fn is_content(content: &Content)
+fn of_content(content: &Content)
     ensures numbers { NumbersFit content.now.extras }
     ensures key { IsKey content.now.key }
 {
-    are_numbers(content.extras());
-    is_key(content.key());
+    of_numbers(content.extras());
+    of_key(content.key());
 }
 
-fn is_linked(link: &Linked)
+fn of_linked(link: &Linked)
     ensures { is_linked link.now ≡ true }
 {
-    is_zid(&link.id);
-    is_weight(link.weight);
+    of_zid(&link.id);
+    of_weight(link.weight);
 }
 
-fn is_weight(weight: u16)
+fn of_weight(weight: u16)
     ensures { nat_lt weight (2 ^ 16) ≡ true }
 {
     let _ = weight;
 }
 
-fn are_linked(links: &[Linked])
+fn of_links(links: &[Linked])
     ensures { list_all is_linked links.now ≡ true }
 {
     for link in links {
-        is_linked(link);
+        of_linked(link);
     }
 }
 
-fn is_record(links: &LinkRecord)
+fn of_record(links: &LinkRecord)
     ensures { IsMade (State links.now) }
 {
-    is_zid(&links.id());
-    are_linked(links.links());
+    of_zid(&links.id());
+    of_links(links.links());
 }
 
 #[tactic(auto, using(crate::proofs::Keys::text_is_canonical))]
-fn is_decl(decl: &Decl)
+fn of_decl(decl: &Decl)
     ensures { is_decl decl.now ≡ true }
 {
     let _ = decl.key.text();
 }
 
-fn are_decls(decls: &[Decl])
+fn of_decls(decls: &[Decl])
     ensures { list_all is_decl decls.now ≡ true }
 {
     for decl in decls {
-        is_decl(decl);
+        of_decl(decl);
     }
 }
