@@ -1,5 +1,5 @@
--- Which worlds calls lead to: the empty one, and from each such world that which an act, counted steps or a fan leave. Each of them is sound
--- (`reached_sound`), and its routers take what may come (`reached_takes`, `reached_waiting`).
+-- Which worlds calls of fit acts lead to: the empty one, and from each such world that which a fit act, counted steps or a fan leave. Each world to
+-- which calls lead is sound (`reached_sound`), and its routers take what may come (`reached_takes`, `reached_waiting`).
 use Rattle.std.proofs.Common.{◌≡◌, ◌≤◌, ◌<◌, ◌+◌, ℕ, cond, List, [], ◌∷◌, ◌++◌, Option, Some, None, Result, Ok, Err, refl, sym, ap, ◌∙◌, subst, arith}
 use Rattle.std.specs.Prelude.{IfOk, IfSome}
 use Rattle.std.specs.List.{fold}
@@ -24,7 +24,7 @@ use Rattle.zr_law_numbers.specs.Calls.{Call, Apply, Book, Fan, left_by, counted_
 use Rattle.zr_law_numbers.proofs.EveryWorld.{worlds_go}
 use Rattle.zr_lists.proofs.Each.{All-append}
 use Rattle.zr_law_calls.specs.Fitting.{IsFit}
-use Rattle.zr_law_calls.specs.Reached.{IsFitCall, IsReached}
+use Rattle.zr_law_calls.specs.Reached.{IsFitCall, IsFitReached, IsReached}
 
 -- ---- one call more
 
@@ -36,12 +36,12 @@ led_more calls call w v leads made =
 applied_more : (calls : List Call) (call : Call) → applied_in (calls ++ call ∷ []) ≡ applied_in calls + cond (is_apply call) 1 0
 applied_more calls call = fold-append (λ (n : ℕ) call. n + cond (is_apply call) 1 0) 0 calls (call ∷ [])
 
-pub reached_first : IsReached empty_world 0
-unfolding IsReached
+pub reached_first : IsFitReached empty_world 0
+unfolding IsFitReached
 reached_first = ([], refl, refl, omega arith, tt)
 
-pub reached_applied : (w : WorldState) (n line : ℕ) (act : Act) (x : List ReportLine × WorldState) → IsReached w n → IsFit act → n < most_commands → outcome w line act ≡ Ok x → IsReached x.1 (n + 1)
-unfolding IsReached
+pub reached_applied : (w : WorldState) (n line : ℕ) (act : Act) (x : List ReportLine × WorldState) → IsFitReached w n → IsFit act → n < most_commands → outcome w line act ≡ Ok x → IsFitReached x.1 (n + 1)
+unfolding IsFitReached
 reached_applied w n line act x h fit room e = (
   h.0 ++ Apply line act ∷ [],
   led_more h.0 (Apply line act) w x.1 h.1 (ap left_by e),
@@ -50,21 +50,26 @@ reached_applied w n line act x h fit room e = (
   All-append IsFitCall h.0 (Apply line act ∷ []) h.4 (fit, tt),
 )
 
-pub reached_booked : (w v : WorldState) (n steps : ℕ) → IsReached w n → book_step w steps ≡ Ok v → IsReached v n
-unfolding IsReached
+pub reached_booked : (w v : WorldState) (n steps : ℕ) → IsFitReached w n → book_step w steps ≡ Ok v → IsFitReached v n
+unfolding IsFitReached
 reached_booked w v n steps h e =
     let same : applied_in (h.0 ++ Book steps ∷ []) ≡ applied_in h.0 + 0 = applied_more h.0 (Book steps) in
     let count : applied_in (h.0 ++ Book steps ∷ []) ≡ n = omega (arith, same, h.2) in
     (h.0 ++ Book steps ∷ [], led_more h.0 (Book steps) w v h.1 (ap counted_by e), count, h.3, All-append IsFitCall h.0 (Book steps ∷ []) h.4 (tt, tt))
 
-pub reached_fanned : (w : WorldState) (n line : ℕ) (x : List ReportLine × WorldState) → IsReached w n → fan_step w line ≡ Ok x → IsReached x.1 n
-unfolding IsReached
+pub reached_fanned : (w : WorldState) (n line : ℕ) (x : List ReportLine × WorldState) → IsFitReached w n → fan_step w line ≡ Ok x → IsFitReached x.1 n
+unfolding IsFitReached
 reached_fanned w n line x h e =
     let same : applied_in (h.0 ++ Fan line ∷ []) ≡ applied_in h.0 + 0 = applied_more h.0 (Fan line) in
     let count : applied_in (h.0 ++ Fan line ∷ []) ≡ n = omega (arith, same, h.2) in
     (h.0 ++ Fan line ∷ [], led_more h.0 (Fan line) w x.1 h.1 (ap left_by e), count, h.3, All-append IsFitCall h.0 (Fan line ∷ []) h.4 (tt, tt))
 
 -- ---- what holds of these worlds
+
+-- which acts they apply is left out
+pub fit_reached : (w : WorldState) (n : ℕ) → IsFitReached w n → IsReached w n
+unfolding IsFitReached IsReached
+fit_reached w n h = (h.0, h.1, h.2, h.3)
 
 call_sound : (o : Option WorldState) (call : Call) → IfSome o IsSound → IfSome (option_and_then (λ w. call_made w call) o) IsSound
 call_sound None call h = tt

@@ -24,7 +24,7 @@ use Rattle.zr_world_spec.proofs.Sound.{book_keeps, empty_sound, said_first}
 use Rattle.zr_law_sent.specs.Passing.{MayPass}
 use Rattle.zr_law_numbers.specs.Calls.{Call, Apply, Book, Fan, call_made, counted_by, left_by}
 use Rattle.zr_law_calls.specs.Fitting.{IsFit}
-use Rattle.zr_law_calls.specs.Reached.{IsFitCall, IsReached}
+use Rattle.zr_law_calls.specs.Reached.{IsFitCall, IsFitReached}
 use Rattle.zr_law_carried.specs.Carriable.{IsCarriable, IsCarried, ReachedIsCarriable, SentTo, role_of}
 use Rattle.zr_law_carried.proofs.Acts.{act_carried}
 
@@ -127,12 +127,12 @@ first_stands : Stands empty_world
 first_stands = (empty_sound, record { ends = λ e. tt; routers = λ x. tt; apart = λ name e. refl })
 
 pub reached_carriable : ReachedIsCarriable
-unfolding IsReached
+unfolding IsFitReached
 reached_carriable w n h = (subst (λ (o : Option WorldState). IfSome o Stands) h.1 (calls_stand h.0 (Some empty_world) h.4 first_stands)).1
 
 -- ---- what a carrier is asked for
 
-module _ (w : WorldState) (n : ℕ) (h : IsReached w n) where
+module _ (w : WorldState) (n : ℕ) (h : IsFitReached w n) where
   -- what a router has queued for another one, it may pass on
   pub reached_queue : (x y : List ℕ) (s : EndState) → end_of w.ends (x, y) ≡ Some s → is_some (router_of w.routers y) ≡ true → AllByRecursion (λ t. MayPass Router t.msg) s.queue
   reached_queue x y s found router =

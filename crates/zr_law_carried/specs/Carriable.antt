@@ -10,7 +10,7 @@ use Rattle.zr_world_spec.specs.World.{RouterState, EndState, End, Routers, World
 use Rattle.zr_law_sent.specs.Passing.{IsPassable, MayPass}
 use Rattle.zr_law_sent.specs.Sent.{Holds}
 use Rattle.zr_law_sent.proofs.Kept.{IsKept}
-use Rattle.zr_law_calls.specs.Reached.{IsReached}
+use Rattle.zr_law_calls.specs.Reached.{IsFitReached}
 
 -- who has a name: a router, or else a client
 abbrev pub role_of : Routers → List ℕ → Role
@@ -37,6 +37,6 @@ pub record IsCarriable (w : WorldState) : Type 0 where
   pub routers : (x : List ℕ) → IfSome (router_of w.routers x) IsCarrier
   pub apart : (name : List ℕ) → is_some (client_of w.clients name) ≡ true → is_some (router_of w.routers name) ≡ false
 
--- in each world to which calls lead
+-- in each world to which calls of fit acts lead
 abbrev pub ReachedIsCarriable : Type 0
-ReachedIsCarriable = (w : WorldState) (applied : ℕ) → IsReached w applied → IsCarriable w
+ReachedIsCarriable = (w : WorldState) (applied : ℕ) → IsFitReached w applied → IsCarriable w

@@ -5,7 +5,7 @@
 ghost use Rattle.zr_law_carried.specs.Carriable.{ReachedIsCarriable};
 ghost use Rattle.zr_law_carried.specs.Lines.{LineActsFit};
 
-/// In a world to which calls lead, what waits may be carried.
+/// In a world to which calls of fit acts lead, what waits may be carried.
 #[tactic(auto, using(crate::proofs::Reached::reached_carriable))]
 pub fn reached_is_carriable()
     ensures { ReachedIsCarriable }

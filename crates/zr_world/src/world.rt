@@ -46,7 +46,7 @@ impl<C: Carrier> Drop for World<C> {
 
 impl<C: Carrier> Model for World<C> {
     ghost use Rattle.std.specs.Prelude.{◌≡◌, false};
-    ghost use Rattle.zr_law_calls.specs.Reached.{IsReached};
+    ghost use Rattle.zr_law_calls.specs.Reached.{IsFitReached};
     ghost use Rattle.zr_world.specs.Living.{Living};
     ghost use Rattle.zr_world.specs.State.{state_of};
 
@@ -54,7 +54,7 @@ impl<C: Carrier> Model for World<C> {
 
     ghost view = { λ w. record { state = state_of w.tables; applied = w.applied; spent = w.spent } };
 
-    ghost invariant = { λ w. w.spent ≡ false → IsReached (state_of w.tables) w.applied };
+    ghost invariant = { λ w. w.spent ≡ false → IsFitReached (state_of w.tables) w.applied };
 }
 
 impl World<Plain> {

@@ -5,8 +5,7 @@ use Rattle.zr_world_spec.specs.World.{WorldState}
 use Rattle.zr_world_spec.specs.Acts.{outcome}
 use Rattle.zr_world_spec.specs.Sound.{IsSound}
 use Rattle.zr_law_numbers.specs.Calls.{most_commands}
-use Rattle.zr_law_calls.specs.Reached.{IsReached}
-use Rattle.zr_law_calls.proofs.Reached.{reached_sound}
+use Rattle.zr_law_calls.specs.Reached.{IsFitReached}
 use Rattle.zr_world.specs.Living.{Living, Applies, IsPassed}
 use Rattle.zr_world.specs.State.{state_of}
 use Rattle.zr_world.proofs.Possible.{act_reached, act_passes, reached_led, world_applies}
@@ -17,7 +16,7 @@ use Rattle.zr_world.proofs.world.World.apply.Goals as goal
 pub returns-then-self-ge-MOST_COMMANDS-clause-sound : goal.returns-then-self-ge-MOST_COMMANDS-clause-sound
 returns-then-self-ge-MOST_COMMANDS-clause-sound g c = λ alive.
     subst (λ (l : Living). IsSound l.state) c.self.view_is
-    (reached_sound (state_of c.self.inside.tables) c.self.inside.applied (c.self.invariant (ap (λ (l : Living). l.spent) c.self.view_is ∙ alive)))
+    (reached_led (state_of c.self.inside.tables) c.self.inside.applied (c.self.invariant (ap (λ (l : Living). l.spent) c.self.view_is ∙ alive))).sound
 
 pub act-done-requires : goal.act-done-requires
 act-done-requires g c = (reached_led (state_of c.self.inside.tables) c.self.inside.applied (c.self.invariant c.if-self.false), c.requires)
@@ -32,15 +31,15 @@ counted g c =
     by true = refl
     by false = omega arith
 
--- calls lead to the world that isn't spent
-behind : (g : Over) (c : goal.After-self-2-1 g) → c.is_out_of_memory-self-inside.result ≡ false → IsReached (state_of c.act-done.new.self) (cond (is_ok c.act-done.result) (c.self.inside.applied + 1) c.self.inside.applied)
+-- calls of fit acts lead to the world that isn't spent
+behind : (g : Over) (c : goal.After-self-2-1 g) → c.is_out_of_memory-self-inside.result ≡ false → IsFitReached (state_of c.act-done.new.self) (cond (is_ok c.act-done.result) (c.self.inside.applied + 1) c.self.inside.applied)
 behind g c alive =
     let room : c.self.inside.applied < most_commands = omega arith in
     act_reached c.act-done.result (state_of c.self.inside.tables) (state_of c.act-done.new.self) c.self.inside.applied c.args.line c.args.act c.args.report.now.items c.act-done.new.report.items c.act-done.ensures
     c.requires room (c.self.invariant c.if-self.false) (sym c.is_out_of_memory-self-inside.ensures ∙ alive)
 
 pub invariant_of-self : goal.invariant_of-self
-invariant_of-self g c = λ alive. subst (λ n. IsReached (state_of c.act-done.new.self) n) (sym (counted g c)) (behind g c alive)
+invariant_of-self g c = λ alive. subst (λ n. IsFitReached (state_of c.act-done.new.self) n) (sym (counted g c)) (behind g c alive)
 
 pub returns-clause-applies : goal.returns-clause-applies
 returns-clause-applies g c = λ alive room.
@@ -67,7 +66,7 @@ returns-clause-limits g c = λ limit.
     c.act-done.ensures (c.self.invariant c.if-self.false) limit))
 
 pub returns-clause-sound : goal.returns-clause-sound
-returns-clause-sound g c = λ alive. reached_sound (state_of c.act-done.new.self) (cond (is_ok c.act-done.result) (c.self.inside.applied + 1) c.self.inside.applied) (behind g c alive)
+returns-clause-sound g c = λ alive. (reached_led (state_of c.act-done.new.self) (cond (is_ok c.act-done.result) (c.self.inside.applied + 1) c.self.inside.applied) (behind g c alive)).sound
 
 pub returns-clause-spent : goal.returns-clause-spent
 returns-clause-spent g c = λ spent. absurd (false≢true (sym c.if-self.false ∙ ap (λ (l : Living). l.spent) c.self.view_is ∙ spent))

@@ -4,14 +4,13 @@ use Rattle.std.proofs.lemmas.Bool.{false≢true}
 use Rattle.zr_world_spec.specs.World.{WorldState}
 use Rattle.zr_world_spec.specs.Fan.{are_many, are_long}
 use Rattle.zr_world_spec.specs.Next.{fan_step}
-use Rattle.zr_law_calls.proofs.Reached.{reached_sound}
 use Rattle.zr_world.specs.Living.{Living, Applies}
 use Rattle.zr_world.specs.State.{state_of}
-use Rattle.zr_world.proofs.Possible.{fan_reached, world_applies}
+use Rattle.zr_world.proofs.Possible.{fan_reached, reached_led, world_applies}
 use Rattle.zr_world.proofs.world.World.fan.Goals as goal
 
 pub fan-done-requires : goal.fan-done-requires
-fan-done-requires g c = (c.type_bounds.sync-R, reached_sound (state_of c.self.inside.tables) c.self.inside.applied (c.self.invariant c.if-self.false))
+fan-done-requires g c = (c.type_bounds.sync-R, (reached_led (state_of c.self.inside.tables) c.self.inside.applied (c.self.invariant c.if-self.false)).sound)
 
 pub invariant_of-self : goal.invariant_of-self
 invariant_of-self g c = λ alive.
@@ -39,9 +38,9 @@ returns-clause-limits g c = λ limit. subst (λ (l : Living). (are_many l.state 
 
 pub returns-clause-sound : goal.returns-clause-sound
 returns-clause-sound g c = λ alive.
-    reached_sound (state_of c.fan-done.new.self) c.self.inside.applied
+    (reached_led (state_of c.fan-done.new.self) c.self.inside.applied
     (fan_reached c.fan-done.result (state_of c.self.inside.tables) (state_of c.fan-done.new.self) c.self.inside.applied c.args.line c.args.report.now.items c.fan-done.new.report.items c.fan-done.ensures.applies
-    (c.self.invariant c.if-self.false) (sym c.is_out_of_memory-self-inside.ensures ∙ alive))
+    (c.self.invariant c.if-self.false) (sym c.is_out_of_memory-self-inside.ensures ∙ alive))).sound
 
 pub returns-clause-spent : goal.returns-clause-spent
 returns-clause-spent g c = λ spent. absurd (false≢true (sym c.if-self.false ∙ ap (λ (l : Living). l.spent) c.self.view_is ∙ spent))
