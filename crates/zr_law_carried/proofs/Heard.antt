@@ -1,7 +1,7 @@
 -- What a router sends where it hears of an event may be carried, where what came may: towards routers it may be passed on, and towards clients nothing is
 -- asked. And the router keeps and holds what it may.
 use Rattle.std.proofs.Common.{◌≡◌, ℕ, Bool, true, false, cond, List, [], ◌∷◌, Option, Some, None, refl, sym, ap, ◌∙◌, subst, arith}
-use Rattle.std.specs.Prelude.{is_some}
+use Rattle.std.specs.Prelude.{is_some, IfSome}
 use Rattle.std.specs.List.{AllByRecursion}
 use Rattle.std.specs.Option.{option_map_or}
 use Rattle.std.proofs.lemmas.Bool.{false≢true}
@@ -25,12 +25,20 @@ use Rattle.zr_world_spec.specs.Sound.{AreUnique}
 use Rattle.zr_world_spec.proofs.Links.{numbered_link}
 use Rattle.zr_world_spec.proofs.Telling.{told_to_router}
 use Rattle.zr_law_sent.specs.Passing.{IsPassable, MayPass}
-use Rattle.zr_law_sent.specs.Sent.{Comes, Passes, role_at}
+use Rattle.zr_law_sent.specs.Sent.{Comes, Holds, Passes, role_at}
 use Rattle.zr_law_sent.proofs.Holding.{held_after}
-use Rattle.zr_law_sent.proofs.Kept.{kept_after}
+use Rattle.zr_law_sent.proofs.Kept.{IsKept, kept_after}
 use Rattle.zr_law_sent.proofs.Sent.{sends_pass}
-use Rattle.zr_law_carried.specs.Carriable.{IsCarrier, SentTo, role_of}
+use Rattle.zr_law_carried.specs.Carriable.{SentTo, role_of}
 use Rattle.zr_law_carried.proofs.Ends.{AreCarried, waiting_carried}
+
+-- what a router knows weighs no more than it may, and what it holds came as a reply that may be passed on
+pub record IsCarrier (r : RouterState) : Type 0 where
+  pub kept : IsKept r.node
+  pub held : Holds (λ c. IsPassable (Response 0 c)) r.node.held
+
+abbrev pub AreCarriers : Routers → Type 0
+AreCarriers routers = (x : List ℕ) → IfSome (router_of routers x) IsCarrier
 
 -- ---- messages
 

@@ -25,11 +25,8 @@ use Rattle.zr_law_sent.specs.Passing.{MayPass}
 use Rattle.zr_law_numbers.specs.Calls.{Call, Apply, Book, Fan, call_made, counted_by, left_by}
 use Rattle.zr_law_calls.specs.Fitting.{IsFit}
 use Rattle.zr_law_calls.specs.Reached.{IsFitCall, IsFitReached}
-use Rattle.zr_law_carried.specs.Carriable.{IsCarriable, IsCarried, ReachedIsCarriable, SentTo, role_of}
-use Rattle.zr_law_carried.proofs.Acts.{act_carried}
-
-abbrev Stands : WorldState → Type 0
-Stands w = IsSound w × IsCarriable w
+use Rattle.zr_law_carried.specs.Carriable.{IsCarried, ReachedIsCarriable, SentTo, role_of}
+use Rattle.zr_law_carried.proofs.Acts.{Stands, act_carried}
 
 -- ---- steps
 
@@ -96,7 +93,7 @@ unfolding book_step
 book_stands w steps h = by (nat_le (w.booked + steps) most_steps) (book_keeps w steps h.0)
   where
     by : (b : Bool) → IfOk (cond b (Ok (booking w steps)) (Err Limit)) IsSound → IfOk (cond b (Ok (booking w steps)) (Err Limit)) Stands
-    by true s = (s, record { ends = h.1.ends; routers = h.1.routers; apart = h.1.apart })
+    by true s = (s, (record { ends = h.1.0.ends; apart = h.1.0.apart }, h.1.1))
     by false s = tt
 
 -- ---- calls
@@ -124,11 +121,11 @@ calls_stand [] o fit h = h
 calls_stand (call ∷ calls) o fit h = calls_stand calls (option_and_then (λ w. call_made w call) o) fit.1 (call_stands o call fit.0 h)
 
 first_stands : Stands empty_world
-first_stands = (empty_sound, record { ends = λ e. tt; routers = λ x. tt; apart = λ name e. refl })
+first_stands = (empty_sound, (record { ends = λ e. tt; apart = λ name e. refl }, λ x. tt))
 
 pub reached_carriable : ReachedIsCarriable
 unfolding IsFitReached
-reached_carriable w n h = (subst (λ (o : Option WorldState). IfSome o Stands) h.1 (calls_stand h.0 (Some empty_world) h.4 first_stands)).1
+reached_carriable w n h = (subst (λ (o : Option WorldState). IfSome o Stands) h.1 (calls_stand h.0 (Some empty_world) h.4 first_stands)).1.0
 
 -- ---- what a carrier is asked for
 

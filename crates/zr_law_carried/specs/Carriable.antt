@@ -3,13 +3,10 @@
 use Rattle.std.specs.Prelude.{◌≡◌, ℕ, true, false, if◌then◌else◌, List, is_some, IfSome}
 use Rattle.std.specs.List.{AllByRecursion}
 use Rattle.zr_msg.specs.declared.msg.Msg.{Msg}
-use Rattle.zr_msg.specs.declared.msg.Msg.TheVariants.{Response}
 use Rattle.zr_msg.specs.declared.peer.Role.{Role}
 use Rattle.zr_msg.specs.declared.peer.Role.TheVariants.{Client, Router}
-use Rattle.zr_world_spec.specs.World.{RouterState, EndState, End, Routers, WorldState, router_of, client_of, end_of}
-use Rattle.zr_law_sent.specs.Passing.{IsPassable, MayPass}
-use Rattle.zr_law_sent.specs.Sent.{Holds}
-use Rattle.zr_law_sent.proofs.Kept.{IsKept}
+use Rattle.zr_world_spec.specs.World.{EndState, End, Routers, WorldState, router_of, client_of, end_of}
+use Rattle.zr_law_sent.specs.Passing.{MayPass}
 use Rattle.zr_law_calls.specs.Reached.{IsFitReached}
 
 -- who has a name: a router, or else a client
@@ -26,15 +23,9 @@ pub record IsCarried (role : Role) (s : EndState) : Type 0 where
   pub wire : AllByRecursion (λ t. MayPass role t.msg) s.wire
   pub queue : AllByRecursion (λ t. SentTo role t.msg) s.queue
 
--- what a router knows weighs no more than it may, and what it holds came as a reply that may be passed on
-pub record IsCarrier (r : RouterState) : Type 0 where
-  pub kept : IsKept r.node
-  pub held : Holds (λ c. IsPassable (Response 0 c)) r.node.held
-
--- no name is that of a router and of a client
+-- what waits at each end may be carried, and no name is that of a router and of a client
 pub record IsCarriable (w : WorldState) : Type 0 where
   pub ends : (e : End) → IfSome (end_of w.ends e) (λ s. IsCarried (role_of w.routers e.1) s)
-  pub routers : (x : List ℕ) → IfSome (router_of w.routers x) IsCarrier
   pub apart : (name : List ℕ) → is_some (client_of w.clients name) ≡ true → is_some (router_of w.routers name) ≡ false
 
 -- in each world to which calls of fit acts lead
