@@ -1,11 +1,10 @@
 -- In each world to which calls of fit acts lead, what waits may be carried (`reached_carriable`): the first world is such, and an act, counted steps
 -- and a fan leave such ones.
 use Rattle.std.proofs.Common.{◌≡◌, ℕ, Bool, true, false, cond, not, List, [], ◌∷◌, Option, Some, None, Result, Ok, Err, refl, ap, subst}
-use Rattle.std.specs.Prelude.{◌+◌, ◌||◌, is_some, nat_le, IfOk, IfSome}
+use Rattle.std.specs.Prelude.{◌+◌, ◌||◌, nat_le, IfOk, IfSome}
 use Rattle.std.specs.List.{AllByRecursion, fold, list_all}
 use Rattle.std.specs.Option.{option_and_then}
 use Rattle.std.proofs.lemmas.Bool.{false≢true, and_parts}
-use Rattle.zr_lists.proofs.Options.{not_there}
 use Rattle.zr_msg.specs.declared.peer.Role.TheVariants.{Client, Router}
 use Rattle.zr_script_spec.specs.declared.command.Act.{Act}
 use Rattle.zr_script_spec.specs.declared.command.Act.TheVariants as a
@@ -13,7 +12,7 @@ use Rattle.zr_script_spec.specs.declared.error.ScriptError.{ScriptError}
 use Rattle.zr_script_spec.specs.declared.error.ScriptError.TheVariants.{Limit, NotSamples, NotSettled}
 use Rattle.zr_script_spec.specs.declared.report.ReportLine.{ReportLine}
 use Rattle.zr_script_spec.specs.Step.{◌>>=◌}
-use Rattle.zr_world_spec.specs.World.{ClientState, EndState, End, WorldState, empty_world, end_of, router_of, client_of, is_settled, most_steps}
+use Rattle.zr_world_spec.specs.World.{WorldState, empty_world, is_settled, most_steps}
 use Rattle.zr_world_spec.specs.Acts.{Outcome, outcome, unless}
 use Rattle.zr_world_spec.specs.Fan.{are_long, are_many, are_samples, fanned, most_fan_steps}
 use Rattle.zr_world_spec.specs.Moments.{is_step}
@@ -21,11 +20,10 @@ use Rattle.zr_world_spec.specs.Next.{Done, all_done, booking, book_step, fan_don
 use Rattle.zr_world_spec.specs.Sound.{IsSound}
 use Rattle.zr_world_spec.proofs.Lines.{all_steps}
 use Rattle.zr_world_spec.proofs.Sound.{book_keeps, empty_sound, said_first}
-use Rattle.zr_law_sent.specs.Passing.{MayPass}
 use Rattle.zr_law_numbers.specs.Calls.{Call, Apply, Book, Fan, call_made, counted_by, left_by}
 use Rattle.zr_law_calls.specs.Fitting.{IsFit}
 use Rattle.zr_law_calls.specs.Reached.{IsFitCall, IsFitReached}
-use Rattle.zr_law_carried.specs.Carriable.{IsCarried, ReachedIsCarriable, SentTo, role_of}
+use Rattle.zr_law_carried.specs.Carriable.{ReachedIsCarriable}
 use Rattle.zr_law_carried.proofs.Acts.{Stands, act_carried}
 
 -- ---- steps
@@ -126,16 +124,3 @@ first_stands = (empty_sound, (record { ends = λ e. tt; apart = λ name e. refl 
 pub reached_carriable : ReachedIsCarriable
 unfolding IsFitReached
 reached_carriable w n h = (subst (λ (o : Option WorldState). IfSome o Stands) h.1 (calls_stand h.0 (Some empty_world) h.4 first_stands)).1.0
-
--- ---- what a carrier is asked for
-
-module _ (w : WorldState) (n : ℕ) (h : IsFitReached w n) where
-  -- what a router has queued for another one, it may pass on
-  pub reached_queue : (x y : List ℕ) (s : EndState) → end_of w.ends (x, y) ≡ Some s → is_some (router_of w.routers y) ≡ true → AllByRecursion (λ t. MayPass Router t.msg) s.queue
-  reached_queue x y s found router =
-      let at : IsCarried (role_of w.routers y) s = subst (λ (o : Option EndState). IfSome o (λ s. IsCarried (role_of w.routers y) s)) found ((reached_carriable w n h).ends (x, y)) in
-      subst (λ (b : Bool). AllByRecursion (λ t. SentTo (cond b Router Client) t.msg) s.queue) router at.queue
-
-  -- no client has a router's name
-  pub reached_apart : (name : List ℕ) (s : ClientState) → client_of w.clients name ≡ Some s → router_of w.routers name ≡ None
-  reached_apart name s found = not_there (router_of w.routers name) ((reached_carriable w n h).apart name (ap is_some found))
