@@ -6,6 +6,7 @@ use Rattle.std.specs.Map.{keys_of}
 use Rattle.std.specs.Option.{option_map}
 use Rattle.std.proofs.lemmas.Bool.{true≢false, false≢true}
 use Rattle.std.proofs.lemmas.List.{map-append}
+use Rattle.zr_lists.proofs.Options.{there_changed}
 use Rattle.zr_msg.specs.declared.msg.Msg.{Msg}
 use Rattle.zr_msg.specs.declared.peer.Role.{Role}
 use Rattle.zr_script_spec.specs.declared.error.ScriptError.{ScriptError}
@@ -45,12 +46,8 @@ can_send ws ks e k msg h may found =
     let m = may (seen k (ws e.1 e.0)) (seen_at ws ks e ∙ ap (option_map (λ k. seen k (ws e.1 e.0))) found) in
     (m.0, by (ws e.1 e.0) (at_wire (neighbour_role ks e) k (ws e.1 e.0) m.0 (h.carried e.0 e.1 k found)) (subst (λ (r : Role). MayBeSent r msg) role m.1))
   where
-    some : (w : Option Wire) (o : Option KeptEnd) → is_some (option_map (λ k. seen k w) o) ≡ is_some o
-    some w None = refl
-    some w (Some k) = refl
-
     role : neighbour_role (seen_ends ws ks) e ≡ neighbour_role ks e
-    role = ap role_if (ap (λ o. is_some o) (seen_at ws ks (turned e)) ∙ some (ws e.0 e.1) (at_end ks (turned e)))
+    role = ap role_if (ap (λ o. is_some o) (seen_at ws ks (turned e)) ∙ there_changed (λ k. seen k (ws e.0 e.1)) (at_end ks (turned e)))
 
     by : (w : Option Wire) → IsWire (neighbour_role ks e) k.kinds w → MayBeSent (neighbour_role ks e) msg → CanSend w msg
     by None a b = a

@@ -1,18 +1,18 @@
 -- A change of one end, and of the wire to it.
-use Rattle.std.proofs.Common.{◌≡◌, ℕ, Bool, true, false, cond, List, Option, Some, None, refl, sym, ap, ◌∙◌, subst, inl, inr}
+use Rattle.std.proofs.Common.{◌≡◌, Bool, true, false, cond, Option, Some, None, refl, sym, ap, ◌∙◌, subst, inl, inr}
 use Rattle.std.specs.Prelude.{is_some, ◌⊎◌}
 use Rattle.std.specs.List.Sorted.{IsStrictlySortedBy}
 use Rattle.std.specs.Map.{keys_of}
 use Rattle.std.specs.Option.{option_map}
 use Rattle.zr_msg.specs.declared.peer.Role.{Role}
 use Rattle.zr_carrier.specs.Wire.{Wire, Wires}
-use Rattle.zr_world_spec.specs.World.{EndState, End, Ends, end_cmp, is_end, end_of, changed, turned}
+use Rattle.zr_world_spec.specs.World.{EndState, End, end_cmp, is_end, end_of, changed, turned}
 use Rattle.zr_world_spec.proofs.Ends.{same_end}
 use Rattle.zr_world_ends.specs.Carried.{seen, seen_ends, IsAtWire, AreCarried, neighbour_role, role_if}
 use Rattle.zr_world_ends.specs.Kept.{KeptEnd, KeptEnds}
 use Rattle.zr_world_ends.specs.Named.{at_end, change_at}
 use Rattle.zr_world_ends.proofs.Same.{change_is, keys_change}
-use Rattle.zr_world_ends.proofs.Seen.{seen_at, same_seen, sorted_seen, keys_seen}
+use Rattle.zr_world_ends.proofs.Seen.{seen_at, same_seen, sorted_seen}
 
 module _ (ws ws' : Wires) (ks : KeptEnds) (e : End) (v : Option Wire) (f : KeptEnd → KeptEnd) (ordered : IsStrictlySortedBy end_cmp (keys_of ks))
     (wires : (q : End) → ws' q.1 q.0 ≡ cond (is_end e q) v (ws q.1 q.0)) where

@@ -1,5 +1,5 @@
 -- The link of two breaks, or is made anew: both ends change, and the wires between the two.
-use Rattle.std.proofs.Common.{◌≡◌, ℕ, Bool, true, false, cond, List, [], Option, Some, None, Result, Ok, Err, refl, sym, ap, ◌∙◌, subst, inl, inr}
+use Rattle.std.proofs.Common.{◌≡◌, ℕ, Bool, true, false, cond, List, [], Option, Some, None, refl, sym, ap, ◌∙◌, subst, inl, inr}
 use Rattle.std.specs.Prelude.{is_some, ◌||◌, ◌⊎◌}
 use Rattle.std.specs.List.Sorted.{IsStrictlySortedBy}
 use Rattle.std.specs.Map.{keys_of}
@@ -8,14 +8,14 @@ use Rattle.std.proofs.lemmas.Bool.{true≢false, false≢true}
 use Rattle.zr_id.specs.Zid.{is_named}
 use Rattle.zr_msg.specs.declared.peer.Role.{Role}
 use Rattle.zr_msg.specs.declared.peer.Role.TheVariants.{Client, Router}
-use Rattle.zr_carrier.specs.Wire.{Wire, Wires, Closes, Opens, AreSame, new_wire}
+use Rattle.zr_carrier.specs.Wire.{Wire, Wires, Closes, Opens, new_wire}
 use Rattle.zr_world_spec.specs.World.{EndState, End, Ends, end_cmp, is_end, end_of, changed, put_end, broken as broken_end, lifted as lifted_end, new_end as new_link}
 use Rattle.zr_world_spec.proofs.Ends.{ends, same_end, end_turned, put_end_is, sorted_put_end}
 use Rattle.zr_world_ends.specs.Carried.{seen, seen_ends, IsWireIf, IsAtWire, AreCarried, neighbour_role, role_if}
 use Rattle.zr_world_ends.specs.Kept.{KeptEnd, KeptEnds, broken, lifted, new_end}
 use Rattle.zr_world_ends.specs.Named.{at_end, change_at, put_at}
 use Rattle.zr_world_ends.proofs.Same.{same_sorted, change_is, keys_change, put_is, sorted_put}
-use Rattle.zr_world_ends.proofs.Seen.{turned_is, seen_at, same_seen, sorted_seen, keys_seen}
+use Rattle.zr_world_ends.proofs.Seen.{turned_is, seen_at, same_seen, sorted_seen}
 
 -- an end of the link of two
 abbrev between : List ℕ → List ℕ → End → Bool

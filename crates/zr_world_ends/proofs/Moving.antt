@@ -1,11 +1,10 @@
 -- A message comes onto a wire, or is received from it: what the carrier did, and what is kept.
 use Rattle.std.proofs.Common.{◌≡◌, ℕ, true, false, not, drop, Option, Some, None, Result, Ok, Err, refl, sym, ap, ◌∙◌, subst}
-use Rattle.std.specs.List.Sorted.{IsStrictlySortedBy}
 use Rattle.std.specs.Option.{option_map}
 use Rattle.zr_msg.specs.declared.msg.Msg.{Msg}
 use Rattle.zr_script_spec.specs.declared.error.ScriptError.{ScriptError}
 use Rattle.zr_script_spec.specs.declared.error.ScriptError.TheVariants.{NothingThere, NotLinked}
-use Rattle.zr_carrier.specs.Wire.{Wire, Wires, Sets, CanSend, emptied, oldest, with_message, without_oldest}
+use Rattle.zr_carrier.specs.Wire.{Wire, Wires, Sets, emptied, oldest, with_message, without_oldest}
 use Rattle.zr_world_spec.specs.World.{Tagged, EndState, End, Ends, end_of, changed, sent, with_wire}
 use Rattle.zr_world_ends.specs.declared.kind.WireKind.{WireKind}
 use Rattle.zr_world_ends.specs.Carried.{IsTaken, MayArrive, seen, seen_ends, AreCarried, neighbour_role}

@@ -6,7 +6,7 @@ use Rattle.std.specs.Option.{option_map}
 use Rattle.zr_id.specs.Zid.{is_named}
 use Rattle.zr_msg.specs.declared.peer.Role.TheVariants.{Client, Router}
 use Rattle.zr_carrier.specs.Wire.{Wire, Wires, AreSame, Closes, Opens}
-use Rattle.zr_world_spec.specs.World.{EndState, End, Ends, is_end, end_of, changed, put_end, broken as broken_end, lifted as lifted_end, new_end as new_link}
+use Rattle.zr_world_spec.specs.World.{Ends, is_end, end_of, changed, put_end, broken as broken_end, lifted as lifted_end, new_end as new_link}
 use Rattle.zr_world_spec.proofs.Ends.{ends}
 use Rattle.zr_world_ends.specs.Carried.{seen, seen_ends, IsAtWire, AreCarried, neighbour_role}
 use Rattle.zr_world_ends.specs.Kept.{KeptEnd, KeptEnds, broken, lifted, new_end}

@@ -1,7 +1,7 @@
 -- Ends as they are seen through a carrier: what a look-up finds, and what is kept of them.
-use Rattle.std.proofs.Common.{◌≡◌, ℕ, Bool, true, false, cond, not, List, [], ◌∷◌, ◌++◌, map, filter, Option, Some, None, refl, sym, ap, ◌∙◌, subst}
-use Rattle.std.specs.Prelude.{◌&&◌, is_some}
-use Rattle.std.specs.List.{list_all, reduce}
+use Rattle.std.proofs.Common.{◌≡◌, ℕ, Bool, true, false, cond, List, [], ◌∷◌, map, filter, Option, Some, None, refl, sym, ap, ◌∙◌, subst}
+use Rattle.std.specs.Prelude.{◌&&◌}
+use Rattle.std.specs.List.{reduce}
 use Rattle.std.specs.List.Sorted.{IsStrictlySortedBy}
 use Rattle.std.specs.Map.{keys_of}
 use Rattle.std.specs.Option.{option_map}
@@ -9,11 +9,11 @@ use Rattle.zr_id.specs.Zid.{is_named}
 use Rattle.zr_msg.specs.declared.msg.Msg.{Msg}
 use Rattle.zr_msg.specs.declared.peer.Role.{Role}
 use Rattle.zr_carrier.specs.Wire.{Wire, Wires, Sets}
-use Rattle.zr_world_spec.specs.World.{Tagged, EndState, End, Ends, end_cmp, is_end, end_of, turned}
+use Rattle.zr_world_spec.specs.World.{EndState, End, Ends, end_cmp, is_end, end_of}
 use Rattle.zr_world_spec.specs.Next.{lesser, first_where}
 use Rattle.zr_world_spec.proofs.Ends.{end_parts}
 use Rattle.zr_world_ends.specs.declared.kind.WireKind.{WireKind}
-use Rattle.zr_world_ends.specs.Carried.{messages, seen, seen_ends, IsWireIf, IsAtWire, AreCarried, neighbour_role, role_if}
+use Rattle.zr_world_ends.specs.Carried.{messages, seen, seen_ends, AreOnWires, IsWireIf, IsAtWire, AreCarried, neighbour_role}
 use Rattle.zr_world_ends.specs.Kept.{KeptEnd, KeptEnds, kept, kept_ends, kind_of, kinds_of}
 use Rattle.zr_world_ends.specs.Named.{at_end, first_at}
 use Rattle.zr_world_ends.proofs.Same.{same_sorted, at_mapped, keys_mapped}
@@ -48,6 +48,21 @@ sorted_seen ws ks h = subst (IsStrictlySortedBy end_cmp) (sym (keys_seen ws ks))
 pub same_seen : (ws : Wires) (ks : KeptEnds) (es : Ends) → IsStrictlySortedBy end_cmp (keys_of ks) → IsStrictlySortedBy end_cmp (keys_of es) →
     ((q : End) → option_map (λ k. seen k (ws q.1 q.0)) (at_end ks q) ≡ end_of es q) → seen_ends ws ks ≡ es
 same_seen ws ks es sorted sorted' h = same_sorted (seen_ends ws ks) es (sorted_seen ws ks sorted) sorted' (λ q. seen_at ws ks q ∙ h q)
+
+-- ---- what is on the wires
+
+pub on_wires : (ws : Wires) (ks : KeptEnds) → AreOnWires ws (seen_ends ws ks)
+on_wires ws ks x y s found unbroken = by (at_end ks (x, y)) (sym (seen_at ws ks (x, y)) ∙ found)
+  where
+    on : (b : Bool) → b ≡ true → cond b (messages (ws y x)) [] ≡ messages (ws y x)
+    on true e = refl
+    on false e = absurd (cc)
+
+    by : (o : Option KeptEnd) → option_map (λ k. seen k (ws y x)) o ≡ Some s → s.wire ≡ messages (ws y x)
+    by None e = absurd (cc)
+    by (Some k) e =
+        let is : seen k (ws y x) ≡ s = cc in
+        ap (λ (z : EndState). z.wire) (sym is) ∙ on k.unbroken (ap (λ (z : EndState). z.unbroken) is ∙ unbroken)
 
 -- ---- what is kept
 

@@ -29,6 +29,10 @@ seen k wire = drained k (if k.unbroken then messages wire else [])
 abbrev pub seen_ends : Wires → KeptEnds → Ends
 seen_ends wires ks = map (λ e. (e.0, seen e.1 (wires e.0.1 e.0.0))) ks
 
+-- what is on the wire to an end of an unbroken link is what the carrier has there
+abbrev pub AreOnWires : Wires → Ends → Type 0
+AreOnWires wires es = (x y : List ℕ) (s : EndState) → end_of es (x, y) ≡ Some s → s.unbroken ≡ true → s.wire ≡ messages (wires y x)
+
 -- ---- who stands at the other end
 
 -- a router has an end of its own, and a client has none

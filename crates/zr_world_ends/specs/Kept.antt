@@ -11,7 +11,7 @@ abbrev pub most_number : ℕ
 most_number = 2 ^ 64 - 1
 
 abbrev pub kind_of : Msg → WireKind
-kind_of msg = record { calm = not (unsettles msg); sample = is_sample msg; bytes = min (sample_bytes msg) (2 ^ 64 - 1) }
+kind_of msg = record { calm = not (unsettles msg); sample = is_sample msg; bytes = min (sample_bytes msg) most_number }
 
 -- an end, with the kinds of the messages on its wire in their order
 pub record KeptEnd : Type 0 where

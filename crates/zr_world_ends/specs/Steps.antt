@@ -1,5 +1,5 @@
 -- What a call has done at an end.
-use Rattle.std.specs.Prelude.{◌≡◌, ◌∷◌, not, Option, Some, None, Result, Ok, Err}
+use Rattle.std.specs.Prelude.{◌≡◌, not, Option, Some, None, Result, Ok, Err}
 use Rattle.zr_script_spec.specs.declared.error.ScriptError.{ScriptError}
 use Rattle.zr_script_spec.specs.declared.error.ScriptError.TheVariants.{NoMemory, NotLinked}
 use Rattle.zr_script_spec.specs.Step.{◌>>=◌}

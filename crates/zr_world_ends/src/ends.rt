@@ -8,7 +8,7 @@ ghost use Rattle.zr_world_spec.specs.World.{end_of, put_end, changed, sent, queu
 ghost use Rattle.zr_law_fan.specs.Samples.{emptied};
 ghost use Rattle.zr_world_spec.specs.Fan.{is_sample, sample_bytes, waiting_at};
 ghost use Rattle.zr_world_spec.specs.Next.{first_where, can_handle, can_take};
-ghost use Rattle.zr_world_ends.specs.Carried.{ArePaired, MayArrive};
+ghost use Rattle.zr_world_ends.specs.Carried.{AreOnWires, ArePaired, MayArrive};
 ghost use Rattle.zr_world_ends.specs.Kept.{kept, kept_ends};
 ghost use Rattle.zr_world_ends.specs.Steps.{Brings, Gives, changed_at, from_wire, from_queue};
 
@@ -53,6 +53,13 @@ impl<C: Carrier> Ends<C> {
             queues: Queues::new(alloc),
             carrier,
         }
+    }
+
+    /// What carries the messages on the wires.
+    pub fn carrier(&self) -> &C
+        ensures { AreOnWires (C.wire result.now) self.now }
+    {
+        &self.carrier
     }
 
     /// What is kept of the ends in order, each with its router and its neighbour.
@@ -131,11 +138,10 @@ impl<C: Carrier> Ends<C> {
     }
 
     /// An end comes up, where it is there.
-    pub fn lift(&mut self, at: (Zid, Zid)) -> Result<(), AllocError>
-        ensures { OnOk result (self.new ≡ changed_at self.old at lifted (end_of self.old at)) }
+    pub fn lift(&mut self, at: (Zid, Zid))
+        ensures { self.new ≡ changed_at self.old at lifted (end_of self.old at) }
     {
         self.queues.lift(at);
-        Ok(())
     }
 
     /// An end goes down, where it is there, and what was queued is lost.

@@ -66,9 +66,9 @@ pub fn send<C: Carrier>(
     ensures changed { OnOk result (seen_ends (C.wire carrier.new) queues.new ≡ changed (seen_ends (C.wire carrier.old) queues.old) (router, neighbour) (λ s. sent s msg.now tag)) }
     ensures carried { AreCarried (C.wire carrier.new) queues.new }
 {
-    let Some(_end) = queues.get((router, neighbour)) else {
+    if queues.get((router, neighbour)).is_none() {
         return Ok(());
-    };
+    }
     let kind = kind_of(msg);
     queues.announce((router, neighbour), kind)?;
     let sent = carrier.send(neighbour, router, msg, tag);

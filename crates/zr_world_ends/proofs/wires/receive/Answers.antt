@@ -1,4 +1,4 @@
-use Rattle.std.proofs.Common.{◌≡◌, None, Some, refl, sym, ap, ◌∙◌, rules}
+use Rattle.std.proofs.Common.{◌≡◌, None, Some, refl, sym, ◌∙◌, rules}
 use Rattle.zr_world_ends.specs.Named.{at_end}
 use Rattle.zr_world_ends.proofs.Moving.{down_there, lost_carried, not_there, nothing_sent, taken_carried, taken_is}
 use Rattle.zr_world_ends.proofs.wires.receive.Goals as goal

@@ -1,26 +1,31 @@
-use Rattle.std.proofs.Common.{◌≡◌, None, Some, sym, ◌∙◌, rules}
+use Rattle.std.proofs.Common.{◌≡◌, None, not, sym, ap, ◌∙◌}
+use Rattle.std.specs.Prelude.{is_some}
 use Rattle.std.proofs.lemmas.Result.{on_ok_weaker}
+use Rattle.zr_lists.proofs.Options.{not_there, there_changed}
 use Rattle.zr_world_spec.specs.World.{sent}
+use Rattle.zr_world_spec.proofs.Keyed.{there}
 use Rattle.zr_world_ends.specs.Named.{at_end}
 use Rattle.zr_world_ends.proofs.Carrying.{can_send}
 use Rattle.zr_world_ends.proofs.Moving.{lost_again, sent_carried, sent_changed, sent_found, sent_nowhere}
 use Rattle.zr_world_ends.proofs.Putting.{sent_err, sent_ok}
 use Rattle.zr_world_ends.proofs.wires.send.Goals as goal
 
-pub returns-in_default-clause-sent : goal.returns-in_default-clause-sent
-returns-in_default-clause-sent g c =
-    let none : at_end c.args.queues.now (c.args.router, c.args.neighbour) ≡ None = search rules in
+pub returns-then-is_none-clause-sent : goal.returns-then-is_none-clause-sent
+returns-then-is_none-clause-sent g c =
+    let none : at_end c.args.queues.now (c.args.router, c.args.neighbour) ≡ None =
+    not_there (at_end c.args.queues.now (c.args.router, c.args.neighbour)) (ap is_some (sym c.get.ensures) ∙ there_changed (λ x. x.now) c.get.result ∙ c.is_none.ensures ∙ ap not c.if-is_none.true) in
     (sent_nowhere (g.C.Carrier.wire c.args.carrier.now) c.args.queues.now (c.args.router, c.args.neighbour) c.requires.carried (λ s. sent s c.args.msg.now c.args.tag) none).0
 
-pub returns-in_default-clause-changed : goal.returns-in_default-clause-changed
-returns-in_default-clause-changed g c =
-    let none : at_end c.args.queues.now (c.args.router, c.args.neighbour) ≡ None = search rules in
+pub returns-then-is_none-clause-changed : goal.returns-then-is_none-clause-changed
+returns-then-is_none-clause-changed g c =
+    let none : at_end c.args.queues.now (c.args.router, c.args.neighbour) ≡ None =
+    not_there (at_end c.args.queues.now (c.args.router, c.args.neighbour)) (ap is_some (sym c.get.ensures) ∙ there_changed (λ x. x.now) c.get.result ∙ c.is_none.ensures ∙ ap not c.if-is_none.true) in
     (sent_nowhere (g.C.Carrier.wire c.args.carrier.now) c.args.queues.now (c.args.router, c.args.neighbour) c.requires.carried (λ s. sent s c.args.msg.now c.args.tag) none).1
 
 pub send-sent-requires : goal.send-sent-requires
 send-sent-requires g c =
-    let found : at_end c.args.queues.now (c.args.router, c.args.neighbour) ≡ Some c.in-Some._end.now = search rules in
-    (can_send (g.C.Carrier.wire c.args.carrier.now) c.args.queues.now (c.args.router, c.args.neighbour) c.in-Some._end.now c.args.msg.now c.requires.carried c.requires.may found).1
+    let found = there (at_end c.args.queues.now (c.args.router, c.args.neighbour)) (ap is_some (sym c.get.ensures) ∙ there_changed (λ x. x.now) c.get.result ∙ c.is_none.ensures ∙ ap not c.if-is_none.false) in
+    (can_send (g.C.Carrier.wire c.args.carrier.now) c.args.queues.now (c.args.router, c.args.neighbour) found.0 c.args.msg.now c.requires.carried c.requires.may found.1).1
 
 pub returns-else-is_err-clause-sent : goal.returns-else-is_err-clause-sent
 returns-else-is_err-clause-sent g c =

@@ -1,4 +1,4 @@
-use Rattle.std.proofs.Common.{refl, ap, ◌∙◌}
+use Rattle.std.proofs.Common.{ap, ◌∙◌}
 use Rattle.zr_world_spec.specs.World.{Ends}
 use Rattle.zr_world_spec.specs.Next.{first_where, can_handle}
 use Rattle.zr_world_ends.specs.Kept.{can_handle as kept_can_handle}

@@ -2,7 +2,6 @@ use Rattle.std.proofs.Common.{refl, ap, ◌∙◌}
 use Rattle.zr_world_spec.specs.World.{Ends}
 use Rattle.zr_world_spec.specs.Next.{first_where, can_take}
 use Rattle.zr_world_ends.specs.Kept.{can_take as kept_can_take}
-use Rattle.zr_world_ends.proofs.Keeping.{handle_same}
 use Rattle.zr_world_ends.proofs.Seen.{first_same}
 use Rattle.zr_world_ends.proofs.ends.Ends.first_to_take.Goals as goal
 

@@ -1,6 +1,5 @@
-use Rattle.std.proofs.Common.{◌≡◌, None, ap, ◌∙◌}
+use Rattle.std.proofs.Common.{ap, ◌∙◌}
 use Rattle.zr_world_spec.specs.World.{Ends, end_of}
-use Rattle.zr_world_ends.specs.Carried.{seen_ends}
 use Rattle.zr_world_ends.specs.Kept.{lifted, new_end}
 use Rattle.zr_world_ends.proofs.Putting.{carried_same, client_carried, client_seen, closed_none, cut_carried}
 use Rattle.zr_world_ends.proofs.ends.Ends.put_client.Goals as goal

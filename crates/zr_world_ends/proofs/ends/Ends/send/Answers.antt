@@ -1,6 +1,3 @@
-use Rattle.std.proofs.Common.{subst}
-use Rattle.zr_world_spec.specs.World.{Ends}
-use Rattle.zr_world_ends.specs.Carried.{MayArrive}
 use Rattle.zr_world_ends.proofs.ends.Ends.send.Goals as goal
 
 pub send-requires-clause-may : goal.send-requires-clause-may
