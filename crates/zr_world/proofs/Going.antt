@@ -121,7 +121,7 @@ handle_taken w router from r l y led er el told =
     let t = sent_from w.ends (router, from) y told in
     led.taken router from r t.0 l.link y.0 t.1 er t.2 t.3 t.4 (ap number_at el)
 
--- so an error is want of memory
+-- so an error is out of memory
 pub heard_spent : (r r' : RouterState) (link : LinkNo) (msg : Msg) (out : List (LinkNo × Msg)) (error : ScriptError) → IsHeard (Err error) r r' (From link msg) out → refuses_of r (From link msg) ≡ None → error ≡ e.NoMemory
 heard_spent r r' link msg out e.NoMemory heard taken = refl
 heard_spent r r' link msg out error heard taken = absurd (true≢false (sym heard.1 ∙ ap is_some taken))

@@ -120,7 +120,7 @@ impl<C: Carrier> WorldTables<C> {
             return Err(ScriptError::AlreadyLinked);
         }
         r.hear_up(self.alloc, peer, &mut self.out)?;
-        self.ends.lift((router, neighbour))?;
+        self.ends.lift((router, neighbour));
         spread(r, router, &mut self.ends, &mut self.out, line)?;
         Ok(())
     }

@@ -8,6 +8,7 @@ ghost use Rattle.zr_world_spec.specs.Sound.{IsSound};
 ghost use Rattle.zr_world_spec.specs.World.{router_of};
 ghost use Rattle.zr_law_calls.specs.Fitting.{IsFit};
 ghost use Rattle.zr_law_numbers.specs.Calls.{most_commands};
+ghost use Rattle.zr_world_ends.specs.Carried.{AreOnWires};
 ghost use Rattle.zr_world.specs.Living.{Applies, Books, IsPassed, IsPossible, new_world};
 ghost use Rattle.zr_world.specs.Steps.{is_out_of_memory};
 
@@ -76,6 +77,13 @@ impl<C: Carrier> World<C> {
             applied: 0,
             spent: false,
         }
+    }
+
+    /// What carries the messages on the wires, for who wants to look at its bytes.
+    pub fn carrier(&self) -> &C
+        ensures { AreOnWires (C.wire result.now) self.now.state.ends }
+    {
+        self.tables.ends.carrier()
     }
 
     /// The step that a run does next: the `handle` of the first router and neighbour, by name, at which a message waits to be handled, else

@@ -48,7 +48,7 @@ returns g c =
     subst (λ (z : PeerState). IsHeard (Ok tt) c.in-Some.r.now c.hear_up.new.self (up_event c.in-Some.r.now z) c.hear_up.new.out.items) same c.in_ok-hear_up.ensures in
     let ends : Ends = with_end w.ends (c.args.router, c.args.neighbour) (lifted s) in
     let lift : c.lift.new.self ≡ with_end c.args.self.now.ends (c.args.router, c.args.neighbour) (lifted s) =
-    c.in_ok-lift.ensures ∙ ap (λ o. changed_at c.args.self.now.ends (c.args.router, c.args.neighbour) lifted o) es in
+    c.lift.ensures ∙ ap (λ o. changed_at c.args.self.now.ends (c.args.router, c.args.neighbour) lifted o) es in
     let spread : c.spread.new.ends ≡ all_queued_on c.hear_up.new.self.node.links ends c.args.router c.hear_up.new.out.items c.args.line =
     c.in_ok-spread.ensures ∙ ap (λ (z : Ends). all_queued_on c.hear_up.new.self.node.links z c.args.router c.hear_up.new.out.items c.args.line) lift in
     let lent : (c.get_mut.follows.lender c.hear_up.new.self).entries ≡ with_router c.args.self.now.routers.entries c.args.router c.hear_up.new.self = search rules in
