@@ -19,7 +19,7 @@ returns-then-self-ge-MOST_COMMANDS-clause-sound g c = λ alive.
     (reached_led (state_of c.self.inside.tables) c.self.inside.applied (c.self.invariant (ap (λ (l : Living). l.spent) c.self.view_is ∙ alive))).sound
 
 pub act-done-requires : goal.act-done-requires
-act-done-requires g c = (reached_led (state_of c.self.inside.tables) c.self.inside.applied (c.self.invariant c.if-self.false), c.requires)
+act-done-requires g c = record { led = reached_led (state_of c.self.inside.tables) c.self.inside.applied (c.self.invariant c.if-self.false); fit = c.requires }
 
 -- where the act was accepted one more was applied
 counted : (g : Over) (c : goal.After-self-2-1 g) → c.self.inside.applied + c.from.result ≡ cond (is_ok c.act-done.result) (c.self.inside.applied + 1) c.self.inside.applied
