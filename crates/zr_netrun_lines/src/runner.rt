@@ -91,8 +91,8 @@ impl<C: Carrier> Model for Runner<C> {
 }
 
 impl<C: Carrier> Runner<C> {
-    /// The run of no script yet. Its report is counted where there are counts to begin with, and else it is written. What is on the carrier's wires is
-    /// never seen.
+    /// The run of no script yet. Its report is counted where there are counts to begin with, and else it is written. Wires that the
+    /// carrier has already are never looked at.
     pub fn new(alloc: Global, counts: Option<Counts>, carrier: C) -> Runner<C>
         ensures { result ≡ begun counts }
     {

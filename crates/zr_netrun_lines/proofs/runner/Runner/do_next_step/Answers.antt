@@ -1,4 +1,4 @@
-use Rattle.std.proofs.Common.{◌≡◌, ◌∙◌, false, sym, ap}
+use Rattle.std.proofs.Common.{◌≡◌, ◌∙◌, false, ap}
 use Rattle.zr_netrun_lines.specs.Kept.{Kept}
 use Rattle.zr_netrun_lines.proofs.Fitting.{next_fits}
 use Rattle.zr_netrun_lines.proofs.runner.Runner.do_next_step.Goals as goal
