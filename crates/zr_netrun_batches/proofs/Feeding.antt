@@ -1,5 +1,6 @@
 -- A session reads on along its wire.
-use Rattle.std.proofs.Common.{◌≡◌, ◌∙◌, ap, refl, sym, subst, ℕ, Bool, true, false, List, [], ◌∷◌, ◌++◌, drop, append_assoc, append-nil, Option, Some, None, Result, Ok, Err}
+use Rattle.std.proofs.Common.{◌≡◌, ◌∙◌, ap, refl, sym, subst, ℕ, ◌≤◌, length, arith, Bool, true, false, List, [], ◌∷◌, ◌++◌, drop, append_assoc, append-nil, Option, Some, None, Result, Ok, Err}
+use Rattle.std.specs.Option.{option_to_list}
 use Rattle.std.specs.Prelude.{slice_get, is_err, OnOk}
 use Rattle.std.proofs.lemmas.List.{append_cancel_left}
 use Rattle.std.proofs.lemmas.Grind.{flat_map-append}
@@ -17,10 +18,10 @@ use Rattle.zr_session.specs.declared.state.State.{State}
 use Rattle.zr_session.specs.declared.state.State.TheVariants.{Running, Ended, Spent}
 use Rattle.zr_session.specs.Course.{Course, joined}
 use Rattle.zr_session.specs.Stream.{Comes}
-use Rattle.zr_session.specs.Session.{SessionState, Stands, Feeds}
+use Rattle.zr_session.specs.Session.{SessionState, IsAt, Stands, Feeds}
 use Rattle.zr_session.proofs.Pieces.{comes_more, comes_ended, comes_some}
-use Rattle.zr_session.proofs.Calls.{comes_one}
-use Rattle.zr_netrun_batches.specs.Coming.{message_of, messages_in, course_of, coming_to, coming, Leads, Hears, GoesOn}
+use Rattle.zr_session.proofs.Calls.{comes_at, comes_one}
+use Rattle.zr_netrun_batches.specs.Coming.{message_of, messages_in, course_of, coming_to, coming, Leads, CameLast, Hears, GoesOn}
 use Rattle.zr_netrun_batches.specs.Line.{LineState, line_of, with_sent, without_first}
 
 pub messages_append : (xs ys : List SessionEvent) → messages_in (xs ++ ys) ≡ messages_in xs ++ messages_in ys
@@ -97,20 +98,79 @@ piece_fed role box s t piece bytes old new h f none =
           ∙ ap (λ (z : OpeningState). messages_in new.events.items ++ coming_to z t.state t.kept bytes) (sym f.opening),
     )
 
+-- what it gave came with its last bytes
+pub piece_came : (role : Role) (box : OutboxState) (s t : SessionState) (piece bytes : List ℕ) (old new : Fed) →
+    Leads role box s bytes → Feeds s t piece old new → old.events.items ≡ [] → length piece ≤ 64 → CameLast t (messages_in new.events.items)
+piece_came role box s t piece bytes old new h f none short =
+    let on = f.on h.first h.fed h.so_far h.at in
+    let g = on.2 in
+    let early = comes_at h.first s.opening s.state s.kept h.fed h.so_far h.at in
+    let given : new.events.items ≡ g.events = g.new_events ∙ ap (λ z. z ++ g.events) none in
+    record {
+      first = h.first;
+      early = h.fed;
+      piece = piece;
+      short = short;
+      before = h.so_far;
+      kept = early.0;
+      comes = subst (λ (z : OpeningState). Comes z (Opening h.first) h.fed h.so_far early.0) (sym f.opening) early.1;
+      so_far = on.0;
+      at = on.1;
+      others = [];
+      given_are = ap (λ z. messages_in z) g.are_events ∙ messages_append h.so_far.events g.events ∙ ap (λ z. messages_in h.so_far.events ++ messages_in z) (sym given);
+    }
+
+-- a session that has given nothing
+pub nothing_came : (role : Role) (box : OutboxState) (s : SessionState) (bytes : List ℕ) → Leads role box s bytes → CameLast s []
+nothing_came role box s bytes h =
+    let early = comes_at h.first s.opening s.state s.kept h.fed h.so_far h.at in
+    record {
+      first = h.first;
+      early = h.fed;
+      piece = [];
+      short = omega arith;
+      before = h.so_far;
+      kept = early.0;
+      comes = early.1;
+      so_far = h.so_far;
+      at = subst (λ z. IsAt h.first s z h.so_far) (sym (append-nil h.fed)) h.at;
+      others = [];
+      given_are = sym (append-nil (messages_in h.so_far.events));
+    }
+
+-- the oldest message was taken
+pub came_but_oldest : (s : SessionState) (r : Option Msg) (ready left : List Msg) → ready ≡ option_to_list r ++ left → CameLast s ready → CameLast s left
+came_but_oldest s r ready left is h = record {
+  first = h.first;
+  early = h.early;
+  piece = h.piece;
+  short = h.short;
+  before = h.before;
+  kept = h.kept;
+  comes = h.comes;
+  so_far = h.so_far;
+  at = h.at;
+  others = h.others ++ option_to_list r;
+  given_are = h.given_are ∙ ap (λ z. messages_in h.before.events ++ (h.others ++ z)) is
+      ∙ ap (λ z. messages_in h.before.events ++ z) (sym (append_assoc h.others (option_to_list r) left));
+}
+
 -- nothing was fed
 pub goes_nowhere : (s : SessionState) (bytes : List ℕ) (before : List Msg) → GoesOn s bytes before s bytes before
-goes_nowhere s bytes before role box h = (h, refl)
+goes_nowhere s bytes before role box h = (h, refl, λ k. k)
 
--- one piece more
-pub goes_more : (first s t : SessionState) (all bytes piece rest : List ℕ) (before behind later : List Msg) → bytes ≡ piece ++ rest →
+-- one piece more, where all messages that the session had given were taken
+pub goes_more : (first s t : SessionState) (all bytes piece rest : List ℕ) (before behind later : List Msg) → bytes ≡ piece ++ rest → length piece ≤ 64 → behind ≡ [] →
     GoesOn first all before s bytes behind → Hears s t piece behind later → GoesOn first all before t rest later
-goes_more first s t all bytes piece rest before behind later split so_far heard role box h =
+goes_more first s t all bytes piece rest before behind later split short none so_far heard role box h =
     let k = so_far role box h in
     let mine : Leads role box s (piece ++ rest) = subst (λ z. Leads role box s z) split k.0 in
     let next = piece_fed role box s t piece rest heard.0 heard.1 mine heard.2 heard.3 in (
       next.0,
       k.1 ∙ ap (λ z. behind ++ coming s z) split ∙ ap (λ z. behind ++ z) next.1
           ∙ sym (append_assoc behind (messages_in heard.1.events.items) (coming t rest)) ∙ ap (λ z. z ++ coming t rest) (sym heard.4),
+      λ _. subst (λ z. CameLast t z) (sym (heard.4 ∙ ap (λ z. z ++ messages_in heard.1.events.items) none))
+          (piece_came role box s t piece bytes heard.0 heard.1 k.0 heard.2 heard.3 short),
     )
 
 -- ---- the end of the wire

@@ -1,5 +1,5 @@
 -- Lists that are taken from the front, and messages beside their tags.
-use Rattle.std.proofs.Common.{◌≡◌, ◌∙◌, ap, refl, sym, subst, ℕ, zero, suc, ◌<◌, ◌≤◌, ◌==◌, true, false, not, List, [], ◌∷◌, ◌++◌, length, map, take, drop, Option, Some, None, Result, Ok, Err, arith}
+use Rattle.std.proofs.Common.{◌≡◌, ◌∙◌, ap, refl, sym, subst, ℕ, zero, suc, ◌+◌, ◌%◌, ◌<◌, ◌≤◌, ◌==◌, mod-lt, true, false, not, List, [], ◌∷◌, ◌++◌, length, map, take, drop, Option, Some, None, Result, Ok, Err, arith}
 use Rattle.std.proofs.lemmas.Bool.Decides.{nat_tests}
 use Rattle.std.specs.Prelude.{is_some, slice_get, IsSome, ◌↔◌}
 use Rattle.std.specs.List.{zip}
@@ -27,6 +27,17 @@ pub front_within : (n : ℕ) (w : List ℕ) → length (take n w) ≤ length w
 front_within zero w = omega arith
 front_within (suc n) [] = omega arith
 front_within (suc n) (x ∷ w) = omega (arith, front_within n w)
+
+pub front_short : (n : ℕ) (w : List ℕ) → length (take n w) ≤ n
+front_short zero w = omega arith
+front_short (suc n) [] = omega arith
+front_short (suc n) (x ∷ w) = omega (arith, front_short n w)
+
+-- the next piece
+pub next_short : (last n : ℕ) → n ≡ last % 64 + 1 → n ≤ 64
+next_short last n is =
+    let turn : last % 64 < 64 = mod-lt last (omega arith) in
+    omega (arith, is, turn)
 
 drop_within : (n : ℕ) (w : List ℕ) → length (drop n w) ≤ length w
 drop_within zero w = omega arith

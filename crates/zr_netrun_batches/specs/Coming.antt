@@ -1,5 +1,5 @@
 -- The messages that come of the bytes on a wire.
-use Rattle.std.specs.Prelude.{◌≡◌, ℕ, List, [], ◌∷◌, ◌++◌, None}
+use Rattle.std.specs.Prelude.{◌≡◌, ◌≤◌, ◌⊎◌, ℕ, List, [], ◌∷◌, ◌++◌, length, None}
 use Rattle.std.specs.List.{flat_map}
 use Rattle.zr_msg.specs.declared.msg.Msg.{Msg}
 use Rattle.zr_msg.specs.declared.peer.Role.{Role}
@@ -43,10 +43,6 @@ coming_to o Spent kept bytes = []
 abbrev pub coming : SessionState → List ℕ → List Msg
 coming s bytes = coming_to s.opening s.state s.kept bytes
 
--- messages of which a session has given some, and the others are what bytes come to
-abbrev pub IsLeftOf : List Msg → List ℕ → Type 0
-IsLeftOf messages bytes = (s : SessionState) × (given : List Msg) × (messages ≡ given ++ coming s bytes)
-
 -- ---- a wire
 
 -- The bytes on the wire to a session lead to no end, and behind them the session expects what this outbox sends next, of an end of this role.
@@ -64,6 +60,27 @@ pub record Leads (role : Role) (box : OutboxState) (s : SessionState) (bytes : L
   pub outbox : IsOutbox box
   pub names : AreNames box.names
 
+-- The session has given these messages with the last bytes that it was fed, 64 at most, behind others or none.
+pub record CameLast (s : SessionState) (given : List Msg) : Type 0 where
+  pub first : Expected
+  pub early : List ℕ
+  pub piece : List ℕ
+  pub short : length piece ≤ 64
+  pub before : Course
+  pub kept : List ℕ
+  pub comes : Comes s.opening (Opening first) early before kept
+  pub so_far : Course
+  pub at : IsAt first s (early ++ piece) so_far
+  pub others : List Msg
+  pub given_are : messages_in so_far.events ≡ messages_in before.events ++ (others ++ given)
+
+-- Nothing is left. Or a session that expects what its peer sends next has given some of the messages with the last bytes that it was fed, and these bytes come
+-- to the others.
+abbrev pub IsLeftOf : Role → List Msg → List ℕ → Type 0
+IsLeftOf role messages bytes =
+    ((messages ≡ []) × (bytes ≡ []))
+    ⊎ ((box : OutboxState) × (s : SessionState) × (given : List Msg) × Leads role box s bytes × CameLast s given × (messages ≡ given ++ coming s bytes))
+
 -- A message that who sends may send came onto the wire. A session at its other end gives it behind all others.
 abbrev pub ComesOn : OutboxState → List ℕ → Msg → OutboxState → List ℕ → Type 0
 ComesOn box bytes m next more =
@@ -74,7 +91,7 @@ abbrev pub Hears : SessionState → SessionState → List ℕ → List Msg → L
 Hears s t piece before behind =
     (old : Fed) × (new : Fed) × Feeds s t piece old new × (old.events.items ≡ []) × (behind ≡ before ++ messages_in new.events.items)
 
--- What comes is what came and what is coming still, whatever was sent.
+-- What comes is what came and what is coming still, whatever was sent. What the session has given came with its last bytes, if it did before.
 abbrev pub GoesOn : SessionState → List ℕ → List Msg → SessionState → List ℕ → List Msg → Type 0
 GoesOn s bytes before t rest behind =
-    (role : Role) (box : OutboxState) → Leads role box s bytes → Leads role box t rest × (before ++ coming s bytes ≡ behind ++ coming t rest)
+    (role : Role) (box : OutboxState) → Leads role box s bytes → Leads role box t rest × (before ++ coming s bytes ≡ behind ++ coming t rest) × (CameLast s before → CameLast t behind)

@@ -36,10 +36,10 @@ impl Batches {
         }
     }
 
-    /// The bytes on the wire from one to another that were not read, batches behind their lengths: to these the messages on it come. None where there is no
-    /// wire.
+    /// The bytes on the wire from one to another that were not read, batches behind their lengths. They come to the messages on it, but those that its
+    /// session gave with the last bytes that it was fed. None where there is no wire.
     pub fn bytes(&self, from: Zid, to: Zid) -> Option<&[u8]>
-        ensures some { IfSome result (λ b. (w : Wire) × (wires_in self.now.ways from to ≡ Some w) × IsLeftOf (map (λ x. x.0) w.waiting) b.now) }
+        ensures some { IfSome result (λ b. (w : Wire) × (wires_in self.now.ways from to ≡ Some w) × IsLeftOf w.role (map (λ x. x.0) w.waiting) b.now) }
         ensures none { IfNone result (wires_in self.now.ways from to ≡ None) }
     {
         match self.ways.get(&(from, to)) {

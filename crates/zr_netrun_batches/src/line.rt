@@ -35,14 +35,14 @@ pub struct Line {
 
 impl Model for Line {
     ghost use Rattle.std.specs.Prelude.{◌≡◌, false};
-    ghost use Rattle.zr_netrun_batches.specs.Coming.{Leads, coming};
+    ghost use Rattle.zr_netrun_batches.specs.Coming.{CameLast, Leads, coming};
     ghost use Rattle.zr_netrun_batches.specs.Line.{LineState, line_of};
 
     ghost Value = { LineState };
 
     ghost view = { λ l. line_of l.role l.spent l.ready.items (coming l.session l.wire) };
 
-    ghost invariant = { λ l. l.spent ≡ false → Leads l.role l.outbox l.session l.wire };
+    ghost invariant = { λ l. l.spent ≡ false → Leads l.role l.outbox l.session l.wire × CameLast l.session l.ready.items };
 }
 
 impl Line {
@@ -102,9 +102,9 @@ impl Line {
         Ok(self.ready.pop_front())
     }
 
-    /// The bytes on the wire. The messages that are left are some that a session has given, and what these bytes come to.
+    /// The bytes on the wire. The messages that are left are some that the session gave with the last bytes that it was fed, and what these come to.
     pub fn bytes(&self) -> &[u8]
-        ensures { IsLeftOf self.now.messages result.now }
+        ensures { IsLeftOf self.now.role self.now.messages result.now }
     {
         if self.spent {
             return &[];

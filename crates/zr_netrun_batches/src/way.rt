@@ -77,7 +77,7 @@ impl Way {
 
     /// The bytes on the wire, to which its messages come.
     pub fn bytes(&self) -> &[u8]
-        ensures { IsLeftOf (map (λ x. x.0) self.now.waiting) result.now }
+        ensures { IsLeftOf self.now.role (map (λ x. x.0) self.now.waiting) result.now }
     {
         self.line.bytes()
     }
