@@ -66,7 +66,7 @@ pub fn run_script<R: Threads + Sync, G: Gang, S: Source, K: Sink, E: Sink>(
     run_script_over(rt, gang, alloc, options, carrier, input, out, err)
 }
 
-/// The same over any carrier of the network's messages. What it has on wires is never seen.
+/// The same over any carrier of the network's messages. Wires that it has already are never looked at.
 #[tactic(auto, using(crate::proofs::Starting::from_start, crate::proofs::Asked::writes_report, crate::proofs::Asked::writes_summary))]
 pub fn run_script_over<R: Threads + Sync, G: Gang, C: Carrier, S: Source, K: Sink, E: Sink>(
     rt: &R,

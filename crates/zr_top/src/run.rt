@@ -10,7 +10,9 @@ ghost use Rattle.zr_guarantee.specs.Refines.{PhasesDeliver, PhasesRefine};
 ghost use Rattle.zr_guarantee.specs.Scripts.{IsRefined, TellsClients, TellsTokens};
 ghost use Rattle.zr_law_samples.specs.Keys.{AnsweringIsCovering, AnsweringIsMeeting, AskingIsMeeting};
 ghost use Rattle.zr_law_samples.specs.Runs.{RestIsQuiet};
+ghost use Rattle.zr_law_sent.specs.Passing.{PassableMaySend};
 ghost use Rattle.zr_law_carried.specs.Carriable.{ReachedIsCarriable};
+ghost use Rattle.zr_law_carried.specs.Lines.{LineActsFit};
 ghost use Rattle.zr_law_declared.specs.Logs.{SettledLogsAreKnown};
 ghost use Rattle.zr_law_declared.specs.Rows.{SettledRowsAreDeclared};
 ghost use Rattle.zr_law_declared.specs.Sets.{SettledSetsAreDeclared};
@@ -52,7 +54,7 @@ use std::alloc::Global;
 use std::sync::Wait;
 use std::thread::Threads;
 use zr_key::laws::{each_expression_is_read, reading_is_canonical, reading_keeps_keys};
-use zr_law_carried::reached_is_carriable;
+use zr_law_carried::{line_acts_fit, reached_is_carriable};
 use zr_law_declared::{
     settled_logs_are_known, settled_rows_are_declared, settled_sets_are_declared,
 };
@@ -73,6 +75,7 @@ use zr_law_samples::keys::{
 };
 use zr_law_samples::refines::{lines_are_moments, phases_deliver};
 use zr_law_samples::runs::rest_is_quiet;
+use zr_law_sent::passable_may_be_sent;
 use zr_law_settled::{settled_logs_agree, settled_tables_agree};
 use zr_law_told::{lines_tell_clients, lines_tell_tokens, told_maps_are_heard};
 use zr_link_job::ServeJob;
@@ -129,8 +132,9 @@ use zr_tree::laws::{distances_are_of_shortest_walks, records_make_graphs};
 /// and lose nothing, and their histories leave nothing out and close no link. There each router's tables are the replay of its own history, but for the names
 /// of its clients. From a moment at which they are settled and joined, by what they have and have queued for one another, what was queued for each client
 /// is, publisher by publisher, a prefix of what one broker
-/// sends it (`phases`). The parcels of a link are those of these messages (`packed`). `net` has its routers hear such parcels too: what waits for a router
-/// in a script's network may be sent so, sessions open with each other, and what is packed is read back as it was, wherever it is cut (`carried`).
+/// sends it (`phases`). The parcels of a link are those of these messages (`packed`).
+/// In a network to which acts of lines lead, what waits for a router may be passed on by who sends it, and so may be sent. Sessions open with each
+/// other, and what is packed is read back as it was, wherever it is cut (`carried`).
 /// What a router does depends neither on its clients' identifiers, nor
 /// on what their links weigh, nor on the trees that they name (`names`). The premises stand in `zr_law_running` (`specs/Allowed`).
 ///
@@ -193,7 +197,7 @@ where
     ensures running { RunsAreOfAWorld × RunningRoutersAreAWorld }
     ensures phases { SettledRunsHavePhases × RunsSettleAsWorlds × PhasesDeliver × PhasesRefine }
     ensures packed { QueuesArePacked }
-    ensures carried { ReachedIsCarriable × RoutersOpenWithEachOther × ClientsOpen × PackedMessagesAreReadBack × NoCutMatters }
+    ensures carried { LineActsFit × ReachedIsCarriable × PassableMaySend × RoutersOpenWithEachOther × ClientsOpen × PackedMessagesAreReadBack × NoCutMatters }
     ensures names { NamesChangeNothing × TreesChangeNothing × StepsAreAlike }
     ensures carets { CaretsAreUnderWrongWords × CaretsAreUnderWrongKeys }
     ensures served { IfSome (served_of (map string_bytes words.now)) (λ s. IsServingBy s result (S.left input.old) (S.left input.new) (IsReadToEnd (S.ends input.old) (S.ends input.new) (S.quiets input.old) (S.quiets input.new)) (H.generators host.old) (H.generators host.new) (H.calls host.old) (H.calls host.new) (crew_told crew.old) (crew_told crew.new) (crew_faults crew.old) (crew_faults crew.new) (outputs (K.held out.old) (E.held err.old) (E.faults err.old)) (outputs (K.held out.new) (E.held err.new) (E.faults err.new))) }
@@ -250,7 +254,9 @@ where
     phases_deliver();
     phases_refine();
     queues_are_packed();
+    line_acts_fit();
     reached_is_carriable();
+    passable_may_be_sent();
     routers_open_with_each_other();
     clients_open();
     packed_messages_are_read_back();
