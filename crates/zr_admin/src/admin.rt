@@ -127,6 +127,7 @@ impl<P: Glancing + Drop> Admin<P> {
     /// Its link goes down, unless it did already. What was declared on it goes with it, and each request that it has not answered gets its final.
     pub fn leave(&mut self)
         ensures same { IsSamePass self.old.pass self.new.pass }
+        ensures stays { (self.new.link ≡ self.old.link) × (self.new.id ≡ self.old.id) × (self.new.port ≡ self.old.port) }
         ensures left { Leaves (λ h l e. P.refuses_down (arc_value self.old.port) h l e) (P.answers_down (arc_value self.old.port)) self.old.link (sight self.old.pass) (sight self.new.pass) }
     {
         leave(&*self.port, &mut self.pass, self.link);
