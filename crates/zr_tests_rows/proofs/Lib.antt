@@ -1,3 +1,3 @@
 pub mod Spelled
-pub mod Sendable
-pub mod Carriers
+pub mod Passing
+pub mod Opened

@@ -59,7 +59,6 @@ fn body_at(alloc: Global, words: &[&str], at: usize, place: Place) -> Result<Bod
 }
 
 /// The body at the beginning of bytes.
-#[tactic(auto, using(crate::proofs::Sendable::read_is_body, crate::proofs::Sendable::read_is_short))]
 pub fn body(alloc: Global, bytes: &[u8], place: Place) -> Result<Body, Fault>
     ensures is_body { IfOk result (λ b. IsBodyIn place b) }
     ensures short { IfOk result (λ b. length b ≤ length bytes.now) }

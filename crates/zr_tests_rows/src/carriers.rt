@@ -29,9 +29,9 @@ use zr_msg::peer::Role;
 use zr_netrun_batches::batches::Batches;
 use zr_wire::{MOST_OF_ROUTER, admits, write_message};
 
-/// A link that was opened, and how many messages the neighbour has sent.
+/// A neighbour's wire to a router, and how many messages the neighbour has sent.
 #[derive(Drop)]
-struct Link<C: Carrier> {
+struct OpenWire<C: Carrier> {
     carrier: C,
     router: Zid,
     neighbour: Zid,
@@ -39,7 +39,7 @@ struct Link<C: Carrier> {
     sent: u64,
 }
 
-impl<C: Carrier> Model for Link<C> {
+impl<C: Carrier> Model for OpenWire<C> {
     ghost use Rattle.zr_msg.specs.declared.peer.Role.{Role};
     ghost use Rattle.zr_tests_rows.specs.Carriers.{IsOpen};
 
@@ -69,17 +69,18 @@ fn taken<C: Carrier>(alloc: Global, carrier: C, words: &[&str]) -> Result<String
         "router" => Role::Router,
         _ => return Err(Fault::Row),
     };
-    row::run(alloc, Link::new(carrier, role)?, row::behind(words, 1))
+    row::run(alloc, OpenWire::new(carrier, role)?, row::behind(words, 1))
 }
 
-impl<C: Carrier> Link<C> {
-    fn new(mut carrier: C, role: Role) -> Result<Link<C>, Fault>
+impl<C: Carrier> OpenWire<C> {
+    fn new(mut carrier: C, role: Role) -> Result<OpenWire<C>, Fault>
         requires { AreNone (C.wire carrier) }
         ensures { IfOk result (λ l. l ≡ role) }
     {
-        let (router, neighbour) = (Zid::from_bytes(&[2])?, Zid::from_bytes(&[1])?);
+        let router = Zid::from_bytes(&[2])?;
+        let neighbour = Zid::from_bytes(&[1])?;
         carrier.open(router, neighbour, role)?;
-        Ok(Link {
+        Ok(OpenWire {
             carrier,
             router,
             neighbour,
@@ -142,7 +143,7 @@ impl<C: Carrier> Link<C> {
     }
 }
 
-impl<C: Carrier> Steps for Link<C> {
+impl<C: Carrier> Steps for OpenWire<C> {
     fn step(&mut self, alloc: Global, parts: &[&str]) -> Result<String, Fault> {
         match row::word(parts, 0) {
             "receive" => self.receive(alloc),
@@ -154,37 +155,37 @@ impl<C: Carrier> Steps for Link<C> {
 
 // The bytes of the value `hi` on `a/b`, twice.
 fn samples(alloc: Global) -> Result<String, Fault> {
-    let mut link = Link::new(Batches::new(alloc), Role::Router)?;
-    let sample = sample(alloc, link.neighbour, b"hi")?;
-    let sent = send_twice(&mut link, &sample);
+    let mut wire = OpenWire::new(Batches::new(alloc), Role::Router)?;
+    let sample = sample(alloc, wire.neighbour, b"hi")?;
+    let sent = send_twice(&mut wire, &sample);
     drop(sample);
     row::or_fault(sent)?;
-    row::or_fault(row::digits(alloc, on_wire(&link)))
+    row::or_fault(row::digits(alloc, on_wire(&wire)))
 }
 
-fn send_twice<C: Carrier>(link: &mut Link<C>, msg: &Msg) -> Result<(), AllocError>
-    requires { MayBeSent link.old msg.now }
+fn send_twice<C: Carrier>(wire: &mut OpenWire<C>, msg: &Msg) -> Result<(), AllocError>
+    requires { MayBeSent wire.old msg.now }
 {
-    link.send(msg)?;
-    link.send(msg)
+    wire.send(msg)?;
+    wire.send(msg)
 }
 
 // In how many batches a value of so many bytes goes, and whether it is received.
 fn long(alloc: Global, length: usize) -> Result<String, Fault> {
     let payload = row::letters(alloc, length)?;
-    let mut link = Link::new(Batches::new(alloc), Role::Router)?;
-    let sample = sample(alloc, link.neighbour, &payload)?;
-    let sent = link.send(&sample);
+    let mut wire = OpenWire::new(Batches::new(alloc), Role::Router)?;
+    let sample = sample(alloc, wire.neighbour, &payload)?;
+    let sent = wire.send(&sample);
     drop(sample);
     row::or_fault(sent)?;
-    let batches = count_batches(on_wire(&link));
-    let comes = comes(&mut link, &payload)?;
+    let batches = count_batches(on_wire(&wire));
+    let comes = comes(&mut wire, &payload)?;
     row::text(alloc, &(batches, comes))
 }
 
 // Whether the oldest message is a sample of this value.
-fn comes<C: Carrier>(link: &mut Link<C>, payload: &[u8]) -> Result<bool, AllocError> {
-    match link.next()? {
+fn comes<C: Carrier>(wire: &mut OpenWire<C>, payload: &[u8]) -> Result<bool, AllocError> {
+    match wire.next()? {
         Some((msg, _)) => {
             let comes = is_sample(&msg, payload);
             drop(msg);
@@ -202,7 +203,6 @@ fn is_sample(msg: &Msg, payload: &[u8]) -> bool {
 }
 
 // A sample of this value on `a/b`, along a tree.
-#[tactic(auto, using(crate::proofs::Carriers::sample_may_be_sent))]
 fn sample(alloc: Global, tree: Zid, payload: &[u8]) -> Result<Msg, Fault>
     ensures { IfOk result (λ m. MayBeSent role.Router m) }
 {
@@ -243,8 +243,8 @@ fn is_short(alloc: Global, msg: &Msg) -> Result<bool, AllocError>
 }
 
 // What was not read.
-fn on_wire(link: &Link<Batches>) -> &[u8] {
-    match link.carrier.bytes(link.neighbour, link.router) {
+fn on_wire(wire: &OpenWire<Batches>) -> &[u8] {
+    match wire.carrier.bytes(wire.neighbour, wire.router) {
         Some(bytes) => bytes,
         None => &[],
     }

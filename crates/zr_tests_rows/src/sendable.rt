@@ -79,7 +79,6 @@ fn taken_back(name: &str) -> Result<Msg, Fault>
     }
 }
 
-#[tactic(auto, using(crate::proofs::Sendable::final_passes))]
 fn last(alloc: Global) -> Result<Msg, Fault>
     ensures { IfOk result (λ m. IsPassable m) }
 {
@@ -87,7 +86,7 @@ fn last(alloc: Global) -> Result<Msg, Fault>
     Ok(Msg::Final { id: ID, extras })
 }
 
-#[tactic(auto, using(crate::proofs::Sendable::push_passes, crate::proofs::Sendable::request_passes, crate::proofs::Sendable::response_passes))]
+#[tactic(auto, using(crate::proofs::Passing::push_passes, crate::proofs::Passing::request_passes, crate::proofs::Passing::response_passes))]
 fn routed(alloc: Global, name: &str, bytes: &[u8], tree: Option<Zid>) -> Result<Msg, Fault>
     ensures { IfOk result (λ m. IsPassable m) }
 {
