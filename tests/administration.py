@@ -61,7 +61,7 @@ def admin_crowded():
     """With a hundred links all pages are asked for a hundred times in a row, from the router itself and from two routers away, and none is lost."""
     with Router("01", options=ADMIN) as first, Router("02", first) as second, Router("03", second) as third:
         others = [first.client(f"{0x100 + i:04x}") for i in range(LINKS - 3)]  # and the inner client, the second router and who asks
-        for asker in (first.client("0a"), third.client("0b")):
+        for name, asker in (("0a", first.client("0a")), ("0b", third.client("0b"))):
             until(lambda: len(pages(asker, "@/01/router/record/*")) == 3, "the first router has all records")
             seen = pages(asker, "@/01/router/**")
             links = [key for key, _ in seen if "/link/" in key]
@@ -81,6 +81,8 @@ def admin_crowded():
                 finals, replies = finals + came.is_final(), replies + (not came.is_final())
             must(replies, TIMES * len(links), "the replies to queries that were sent at once")
             asker.close()
+            # its page goes with its link, a moment later
+            until(lambda: f"@/01/router/link/{name}" not in dict(pages(others[0], "@/01/router/link/*")), "the first router has no link to who asked")
 
 
 def admin_of_many():
