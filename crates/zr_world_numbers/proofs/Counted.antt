@@ -1,9 +1,9 @@
 -- How often numbers stand in a list, as one comes and as one goes.
-use Rattle.std.proofs.Common.{◌≡◌, ℕ, zero, suc, ◌+◌, ◌<◌, ◌≤◌, ◌==◌, ◌||◌, not, nat_lt, Bool, true, false, cond, List, [], ◌∷◌, ◌++◌, length, filter, map, get_or, Option, Some, None, refl, sym, ap, ◌∙◌, arith}
+use Rattle.std.proofs.Common.{◌≡◌, ℕ, zero, suc, ◌+◌, ◌<◌, ◌≤◌, ◌==◌, ◌||◌, not, nat_lt, Bool, true, false, cond, List, [], ◌∷◌, ◌++◌, length, filter, get_or, Option, Some, None, refl, sym, ap, ◌∙◌, arith}
 use Rattle.std.specs.List.{list_any, remove}
-use Rattle.std.specs.Option.{IsSome, OnSome, option_map_or}
+use Rattle.std.specs.Option.{option_map_or}
 use Rattle.std.specs.Ordering.{is_eq, nat_cmp}
-use Rattle.std.proofs.lemmas.Bool.{eqb-true, eq-eqb, false≢true, lt-ltb}
+use Rattle.std.proofs.lemmas.Bool.{eqb-true, eq-eqb, lt-ltb}
 use Rattle.std.proofs.lemmas.List.Sums.{sum_by-cons, sum_by_push}
 use Rattle.zr_lists.proofs.Numbers.{nat_eq_is}
 use Rattle.zr_world_numbers.specs.declared.numbers.Entry.{Entry}
@@ -53,7 +53,7 @@ stands n (m ∷ ms) zero lt e = omega (arith, often_more n m ms, ap one_if (eq-e
 stands n (m ∷ ms) (suc at) lt e = omega (arith, often_more n m ms, stands n ms at (omega arith) e)
 
 -- the only one there goes
-alone_goes : (n : ℕ) (ms : List ℕ) (at : ℕ) → how_often n ms ≡ 1 → at < length ms → get_or ms at 0 ≡ n → remove ms at ≡ others n ms
+pub alone_goes : (n : ℕ) (ms : List ℕ) (at : ℕ) → how_often n ms ≡ 1 → at < length ms → get_or ms at 0 ≡ n → remove ms at ≡ others n ms
 alone_goes n [] at h lt e = absurd (omega arith)
 alone_goes n (m ∷ ms) zero h lt e =
     let same : (m == n) ≡ true = eq-eqb m n e in
@@ -106,38 +106,3 @@ without_entry n k o = by (is_eq (nat_cmp n k)) ∙ ap (λ b. cond b 0 (option_ma
     by : (b : Bool) → option_map_or (λ (i : Entry). i.times) (cond b None o) 0 ≡ cond b 0 (option_map_or (λ (i : Entry). i.times) o 0)
     by true = refl
     by false = refl
-
--- what follows of a value that is there
-pub on_some : {X A : Type 0} (o : Option X) → IsSome o → OnSome o A → A
-on_some (Some x) s h = h
-on_some None s h = absurd (false≢true s)
-
--- ---- numbers with their places
-
-module _ {X : Type 0} (f : X → ℕ) where
-  pub mapped_left : (p : ℕ → Bool) (xs : List X) → map f (filter (λ x. p (f x)) xs) ≡ filter p (map f xs)
-  mapped_left p [] = refl
-  mapped_left p (x ∷ xs) = by (p (f x)) (mapped_left p xs)
-    where
-      by : (b : Bool) → map f (filter (λ y. p (f y)) xs) ≡ filter p (map f xs) → map f (cond b (x ∷ filter (λ y. p (f y)) xs) (filter (λ y. p (f y)) xs)) ≡ cond b (f x ∷ filter p (map f xs)) (filter p (map f xs))
-      by true ih = ap (λ ks. f x ∷ ks) ih
-      by false ih = ih
-
-  mapped_without : (xs : List X) (at : ℕ) → map f (remove xs at) ≡ remove (map f xs) at
-  mapped_without [] zero = refl
-  mapped_without [] (suc at) = refl
-  mapped_without (x ∷ xs) zero = refl
-  mapped_without (x ∷ xs) (suc at) = ap (λ ks. f x ∷ ks) (mapped_without xs at)
-
-  mapped_at : (xs : List X) (at : ℕ) (d : X) → at < length xs → get_or (map f xs) at 0 ≡ f (get_or xs at d)
-  mapped_at [] at d lt = absurd (omega arith)
-  mapped_at (x ∷ xs) zero d lt = refl
-  mapped_at (x ∷ xs) (suc at) d lt = mapped_at xs at d (omega arith)
-
-  mapped_long : (xs : List X) → length (map f xs) ≡ length xs
-  mapped_long [] = refl
-  mapped_long (x ∷ xs) = ap suc (mapped_long xs)
-
-  -- the one with the number goes, which no other has
-  pub mapped_goes : (n : ℕ) (xs : List X) (at : ℕ) (d : X) → how_often n (map f xs) ≡ 1 → at < length xs → f (get_or xs at d) ≡ n → map f (remove xs at) ≡ others n (map f xs)
-  mapped_goes n xs at d h lt e = mapped_without xs at ∙ alone_goes n (map f xs) at h (omega (arith, lt, mapped_long xs)) (mapped_at xs at d lt ∙ e)

@@ -1,30 +1,24 @@
 //! `ClientNumbers`: numbers in the order in which they came.
 
-ghost use Rattle.std.specs.Prelude.{◌≡◌, ◌==◌, ◌≤◌, ◌<◌, ◌+◌, ◌++◌, ◌∷◌, ℕ, [], None, not, map, filter, length, slice_index_or, if◌then◌else◌, IfSome, OnOk, OnErr};
+ghost use Rattle.std.specs.Prelude.{◌≡◌, ◌==◌, ◌++◌, ◌∷◌, ℕ, List, [], None, Some, IsTrue, not, filter, length, if◌then◌else◌, IfSome, OnOk, OnErr};
 ghost use Rattle.std.specs.List.{list_any};
+ghost use Rattle.std.specs.BTreeMap.{get, values};
+ghost use Rattle.std.specs.Ordering.{nat_cmp};
 ghost use Rattle.zr_world_numbers.specs.Index.{how_often, times_in};
 
 use std::alloc::{AllocError, Global};
-use std::collections::{BTreeMap, VecDeque};
+use std::collections::BTreeMap;
 use std::marker::Model;
+use zr_places::push;
 
 /// ClientNumbers in the order in which they came.
 ///
-/// To look for one takes time by the logarithm of how many there are. So does taking one away that stands once, but that those on one side of it
-/// move, where they are fewer.
+/// To look for one, to add one, and to take one away that stands once takes time by the logarithm of how many there are.
 #[derive(Debug, Drop)]
 pub struct ClientNumbers {
-    items: VecDeque<Item>,
+    // the numbers by their places in the order in which they came
+    items: BTreeMap<u64, u32>,
     index: BTreeMap<u32, Entry>,
-    // the place of the number that comes next
-    next: u64,
-}
-
-// A number, and its place in the order in which numbers came.
-#[derive(Debug, Clone, Copy, Drop)]
-struct Item {
-    number: u32,
-    place: u64,
 }
 
 // How often a number stands there, and the place of the last that came. The place is looked up and then looked at, so no clause speaks of it.
@@ -35,14 +29,15 @@ struct Entry {
 }
 
 impl Model for ClientNumbers {
-    ghost use Rattle.std.specs.Prelude.{ℕ, List, map};
+    ghost use Rattle.std.specs.Prelude.{ℕ, List};
+    ghost use Rattle.std.specs.BTreeMap.{values};
     ghost use Rattle.zr_world_numbers.specs.Index.{IsIndex};
 
     ghost Value = { List ℕ };
 
-    ghost view = { λ n. map (λ i. i.number) n.items.items };
+    ghost view = { λ n. values n.items };
 
-    ghost invariant = { λ n. IsIndex n.index.entries (map (λ i. i.number) n.items.items) };
+    ghost invariant = { λ n. IsIndex n.index.entries (values n.items) };
 }
 
 impl ClientNumbers {
@@ -51,9 +46,8 @@ impl ClientNumbers {
         ensures { result ≡ [] }
     {
         ClientNumbers {
-            items: VecDeque::new(alloc),
+            items: BTreeMap::new(alloc),
             index: BTreeMap::new(alloc),
-            next: 0,
         }
     }
 
@@ -68,20 +62,22 @@ impl ClientNumbers {
     pub fn has(&self, number: u32) -> bool
         ensures { result ≡ list_any (λ n. n == number) self.now }
     {
-        self.times(number) > 0
+        times_in(&self.index, number) > 0
     }
 
     /// A number comes.
     pub fn push(&mut self, number: u32) -> Result<(), AllocError>
         ensures { OnOk result (self.new ≡ self.old ++ number ∷ []) }
     {
-        let place = self.next;
-        let times = self.times(number) + 1;
-        self.items.reserve(1)?;
-        enter(&mut self.index, number, Entry { times, place })?;
-        self.items.push_back_reserved(Item { number, place });
-        self.next = place.wrapping_add(1);
-        Ok(())
+        let place = push(&mut self.items, number)?;
+        let times = times_in(&self.index, number) + 1;
+        match enter(&mut self.index, number, Entry { times, place }) {
+            Ok(()) => Ok(()),
+            Err(_) => {
+                take_last(&mut self.items);
+                Err(AllocError)
+            }
+        }
     }
 
     /// A number goes, as often as it stands there.
@@ -93,16 +89,23 @@ impl ClientNumbers {
             None => {}
         }
     }
+}
 
-    // How often a number stands there.
-    fn times(&self, number: u32) -> usize
-        ensures { result ≡ how_often number self.now }
-    {
-        match self.index.get(&number) {
-            Some(entry) => entry.times,
-            None => 0,
-        }
+// How often the index says that a number stands there.
+fn times_in(index: &BTreeMap<u32, Entry>, number: u32) -> usize
+    ensures { result ≡ times_in index.now.entries number }
+{
+    match index.get(&number) {
+        Some(entry) => entry.times,
+        None => 0,
     }
+}
+
+// The number that came last goes.
+fn take_last(items: &mut BTreeMap<u64, u32>)
+    ensures { (ns : List ℕ) (n : ℕ) → values items.old ≡ ns ++ n ∷ [] → values items.new ≡ ns }
+{
+    items.pop_last();
 }
 
 // A number has this entry.
@@ -114,7 +117,7 @@ fn enter(index: &mut BTreeMap<u32, Entry>, number: u32, entry: Entry) -> Result<
     Ok(())
 }
 
-// A number has none: the one that it had.
+// A number has no entry: the one that it had.
 fn leave(index: &mut BTreeMap<u32, Entry>, number: u32) -> Option<Entry>
     ensures entry { IfSome result (λ e. e.times ≡ times_in index.old.entries number) }
     ensures none { result ≡ None → times_in index.old.entries number ≡ 0 }
@@ -125,37 +128,28 @@ fn leave(index: &mut BTreeMap<u32, Entry>, number: u32) -> Option<Entry>
 }
 
 // A number goes that stands there as often as its entry says.
-fn take_from(items: &mut VecDeque<Item>, number: u32, entry: Entry)
-    requires { entry.times ≡ how_often number (map (λ i. i.number) items.old.items) }
-    ensures { map (λ i. i.number) items.new.items ≡ filter (λ n. not (n == number)) (map (λ i. i.number) items.old.items) }
+fn take_from(items: &mut BTreeMap<u64, u32>, number: u32, entry: Entry)
+    requires { entry.times ≡ how_often number (values items.old) }
+    ensures { values items.new ≡ filter (λ n. not (n == number)) (values items.old) }
 {
-    match alone_at(items, number, entry) {
-        Some(at) => {
-            items.remove(at);
-        }
-        None => sweep(items, number),
+    if entry.times == 1 && stands_at(items, entry.place, number) {
+        items.remove(&entry.place);
+    } else {
+        sweep(items, number);
     }
 }
 
-// Where a number stands, if it is there once and its entry tells the place.
-fn alone_at(items: &VecDeque<Item>, number: u32, entry: Entry) -> Option<usize>
-    ensures within { IfSome result (λ at. at < length items.now.items) }
-    ensures here { (d : Item) → IfSome result (λ at. (slice_index_or items.now.items at d).number ≡ number) }
-    ensures alone { IfSome result (λ at. entry.times ≡ 1) }
+fn stands_at(items: &BTreeMap<u64, u32>, place: u64, number: u32) -> bool
+    ensures { IsTrue result → get nat_cmp items.now place ≡ Some number }
 {
-    let at = index_of(items, entry.place);
-    if entry.times == 1 && at < items.len() && items[at].number == number {
-        return Some(at);
+    match items.get(&place) {
+        Some(there) => *there == number,
+        None => false,
     }
-    None
 }
 
-fn index_of(items: &VecDeque<Item>, place: u64) -> usize {
-    items.partition_point(|item| item.place < place)
-}
-
-fn sweep(items: &mut VecDeque<Item>, number: u32)
-    ensures { items.new.items ≡ filter (λ i. not (i.number == number)) items.old.items }
+fn sweep(items: &mut BTreeMap<u64, u32>, number: u32)
+    ensures { values items.new ≡ filter (λ n. not (n == number)) (values items.old) }
 {
-    items.retain(|item| item.number != number);
+    items.retain(|_, there| *there != number);
 }

@@ -1,20 +1,16 @@
-use Rattle.std.proofs.Common.{◌≡◌, ◌<◌, ◌==◌, List, not, map, sym, ap, ◌∙◌, arith}
-use Rattle.std.specs.List.{remove}
-use Rattle.std.specs.VecDeque.{deque_len}
-use Rattle.zr_world_numbers.specs.declared.numbers.Item.{Item}
-use Rattle.zr_world_numbers.proofs.Counted.{mapped_goes, mapped_left, on_some}
+use Rattle.std.proofs.Common.{◌≡◌, ap, ◌∙◌, arith}
+use Rattle.std.specs.BTreeMap.{is_at}
+use Rattle.std.specs.Map.{values_of}
+use Rattle.std.specs.Ordering.{nat_cmp}
+use Rattle.zr_places.proofs.Found.{stands}
+use Rattle.zr_world_numbers.specs.Index.{how_often}
+use Rattle.zr_world_numbers.proofs.Counted.{alone_goes}
 use Rattle.zr_world_numbers.proofs.numbers.take_from.Goals as goal
 
-pub returns-in-Some : goal.returns-in-Some
-returns-in-Some c =
-    let at = c.in-Some.at in
-    let olds = c.args.items.now.items in
-    let none : Item = record { number = 0; place = 0 } in
-    let there : at < deque_len c.args.items.now = omega (arith, c.in-Some.ensures.within, c.args.items.now.ok.0) in
-    let gone : c.remove.new.self.items ≡ remove olds at = on_some c.remove.result (c.remove.ensures.variant.1 there) c.remove.ensures.items in
-    ap (λ (xs : List Item). map (λ (i : Item). i.number) xs) gone
-    ∙ mapped_goes (λ (i : Item). i.number) c.args.number olds at none (sym c.requires ∙ c.in-Some.ensures.alone) c.in-Some.ensures.within (c.in-Some.ensures.here none)
-
-pub returns-in-None : goal.returns-in-None
-returns-in-None c =
-    ap (λ (xs : List Item). map (λ (i : Item). i.number) xs) c.sweep.ensures ∙ mapped_left (λ (i : Item). i.number) (λ k. not (k == c.args.number)) c.args.items.now.items
+pub returns-then-stands_at : goal.returns-then-stands_at
+returns-then-stands_at c =
+    let n = c.args.number in
+    let es = c.args.items.now.entries in
+    let s = stands (is_at (nat_cmp c.args.entry.place)) es n (c.stands_at.ensures c.if-stands_at.true) in
+    let once : how_often n (values_of es) ≡ 1 = omega (arith, c.requires, c.if-entry-eq1.true) in
+    ap values_of c.remove.ensures.entries ∙ s.gone ∙ alone_goes n (values_of es) s.at once s.within (s.here 0)
