@@ -139,7 +139,7 @@ use zr_tree::laws::{distances_are_of_shortest_walks, records_make_graphs};
 /// on what their links weigh, nor on the trees that they name (`names`). The premises stand in `zr_law_running` (`specs/Allowed`).
 ///
 /// The clause `served` says which rules were read, and where a router was served under them, what was called of the host, which jobs the crew started, and what
-/// was written. Where a line of the rules is wrong, the caret that is told is under what is wrong there (`carets`). Where the rules are refused, or can't be read, the host and the crew are as they were (`untouched`). The clause
+/// was written. A job names the identifier of the words and these rules: by the type of a job's parts they are those of the router at its port. Where a line of the rules is wrong, the caret that is told is under what is wrong there (`carets`). Where the rules are refused, or can't be read, the host and the crew are as they were (`untouched`). The clause
 /// `made` says which text was written, where a script was made: all of it at `Done`, and else a prefix. Where `clap` may answer with help or the version,
 /// that is told whole, or else in part, or the words are wrong (`helped`).
 /// With all other words than those of `serve` the host and the crew are as they were (`unserved`), and with all other words than those of `net` and of `serve` with `--rules` the input is (`unread`).
