@@ -1,5 +1,6 @@
 use Rattle.std.proofs.Common.{◌≡◌, ◌||◌, not, Some, ap, false, sym, ◌∙◌}
 use Rattle.std.specs.List.{list_all, list_any}
+use Rattle.std.specs.Map.{values_of}
 use Rattle.zr_pend_spec.specs.declared.branch.Branch.{Branch}
 use Rattle.zr_pend_spec.specs.Row.{RowState, is_branch}
 use Rattle.zr_pend_spec.specs.Pending.{asked, opened}
@@ -15,7 +16,7 @@ enter-requires-clause-free c =
     let uses = c.self.inside.pending in
     let to = c.args.to.now in
     rw (c.as_slice-3.ensures.value, c.in_ok-branches.ensures)
-    (sym (ap (λ rs. list_all (λ b. not (is_used uses b)) (opened rs to)) c.self.view_is) ∙ opened_fresh uses c.self.inside.rows.items to c.self.invariant.1)
+    (sym (ap (λ rs. list_all (λ b. not (is_used uses b)) (opened rs to)) c.self.view_is) ∙ opened_fresh uses (values_of c.self.inside.rows.entries) to c.self.invariant.1)
 
 pub enter-requires-clause-fresh : goal.enter-requires-clause-fresh
 enter-requires-clause-fresh c = c.self.invariant.2 (as_branch c.args.asker) ∙ ap (λ rs. asked c.args.asker rs) c.self.view_is ∙ c.requires.fresh
@@ -23,7 +24,7 @@ enter-requires-clause-fresh c = c.self.invariant.2 (as_branch c.args.asker) ∙ 
 pub invariant_of-self-2 : goal.invariant_of-self-2
 invariant_of-self-2 c =
     let uses = c.self.inside.pending in
-    let rows = c.self.inside.rows.items in
+    let rows = values_of c.self.inside.rows.entries in
     let to = c.args.to.now in
     let new : RowState = record { asker = Some c.args.asker; branches = opened rows to } in
     let fresh : asked c.args.asker rows ≡ false = ap (λ rs. asked c.args.asker rs) c.self.view_is ∙ c.requires.fresh in
