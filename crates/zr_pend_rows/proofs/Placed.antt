@@ -1,11 +1,11 @@
 -- What a branch that ends makes of all rows, and who asked it, where its row is found by its place.
-use Rattle.std.proofs.Common.{◌≡◌, ℕ, ◌<◌, Bool, true, false, cond, List, length, get_or, slice_set, Option, Some, None, refl, sym, ap, ◌∙◌}
+use Rattle.std.proofs.Common.{◌≡◌, ℕ, true, false, cond, List, get_or, slice_set, Option, Some, None, refl, sym, ap, ◌∙◌, subst}
 use Rattle.std.specs.BTreeMap.{is_at}
 use Rattle.std.specs.Map.{lookup, remove_entry, set_value, values_of}
 use Rattle.std.specs.Option.{IsSomeAnd}
 use Rattle.std.specs.Ordering.{nat_cmp}
+use Rattle.std.proofs.lemmas.Option.{same_Some}
 use Rattle.zr_places.proofs.Found.{StandsAt, stands}
-use Rattle.zr_pend_spec.specs.declared.branch.Asker.{Asker}
 use Rattle.zr_pend_spec.specs.declared.branch.Branch.{Branch}
 use Rattle.zr_pend_spec.specs.Row.{RowState, has, is_last, without}
 use Rattle.zr_pend_spec.specs.Pending.{IsSound, are_distinct, asker_of, branches, final_to, finished}
@@ -22,6 +22,10 @@ pub record Found {X : Type 0} (o : Option X) (P : X → Type 0) : Type 0 where
 pub found : {X : Type 0} (o : Option X) (P : X → Type 0) → IsSomeAnd o P → Found o P
 found (Some x) P h = record { value = x; is = refl; holds = h }
 found None P h = absurd h
+
+pub holds_there : {X : Type 0} (o : Option X) (P : X → Type 0) (x : X) → o ≡ Some x → P x → IsSomeAnd o P
+holds_there (Some y) P x e h = subst P (sym (same_Some y x e)) h
+holds_there None P x e h = cc
 
 module _ (es : List (ℕ × RowState)) (place : ℕ) (b : Branch) (r : RowState) (e : lookup (is_at (nat_cmp place)) es ≡ Some r) (h : has b r ≡ true) where
   -- where the row stands among all rows

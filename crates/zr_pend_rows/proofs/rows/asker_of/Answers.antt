@@ -9,4 +9,4 @@ returns-in-Some c =
     let b = c.args.branch in
     let f = found _ (λ r. has b r ≡ true) c.in-Some.ensures.has in
     c.asker_at.ensures ∙ ap (λ o. option_and_then (λ (r : RowState). r.asker) o) f.is
-    ∙ sym (row_asker c.args.rows.now.entries c.in-Some.place b f.value f.is f.holds c.requires)
+    ∙ sym (row_asker c.args.rows.now.entries c.in-Some.place b f.value f.is f.holds c.requires.sound)

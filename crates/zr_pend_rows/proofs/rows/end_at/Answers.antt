@@ -20,16 +20,16 @@ returns-then-is_last_at-clause-rows c =
     let last : is_last b f.value ≡ true = sym (c.is_last_at.ensures ∙ ap (λ o. option_map_or (is_last b) o false) f.is) ∙ c.if-is_last_at.true in
     ap values_of c.take_row.ensures.rows ∙ row_gone c.args.rows.now.entries c.args.place b f.value f.is f.holds c.requires.sound last
 
-pub returns-else-is_last_at-clause-asker : goal.returns-else-is_last_at-clause-asker
-returns-else-is_last_at-clause-asker c =
+pub returns-clause-asker : goal.returns-clause-asker
+returns-clause-asker c =
     let b = c.args.branch in
     let f = found _ (λ r. has b r ≡ true) c.requires.has in
-    let more : is_last b f.value ≡ false = sym (c.is_last_at.ensures ∙ ap (λ o. option_map_or (is_last b) o false) f.is) ∙ c.else-is_last_at.false in
+    let more : is_last b f.value ≡ false = sym (c.is_last_at.ensures ∙ ap (λ o. option_map_or (is_last b) o false) f.is) ∙ c.if-is_last_at.false in
     sym (left_final c.args.rows.now.entries c.args.place b f.value f.is f.holds c.requires.sound more)
 
-pub returns-else-is_last_at-clause-rows : goal.returns-else-is_last_at-clause-rows
-returns-else-is_last_at-clause-rows c =
+pub returns-clause-rows : goal.returns-clause-rows
+returns-clause-rows c =
     let b = c.args.branch in
     let f = found _ (λ r. has b r ≡ true) c.requires.has in
-    let more : is_last b f.value ≡ false = sym (c.is_last_at.ensures ∙ ap (λ o. option_map_or (is_last b) o false) f.is) ∙ c.else-is_last_at.false in
+    let more : is_last b f.value ≡ false = sym (c.is_last_at.ensures ∙ ap (λ o. option_map_or (is_last b) o false) f.is) ∙ c.if-is_last_at.false in
     ap values_of (c.end_in_row.ensures f.value f.is) ∙ row_left c.args.rows.now.entries c.args.place b f.value f.is f.holds c.requires.sound more
