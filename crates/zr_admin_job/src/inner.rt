@@ -24,12 +24,14 @@ use zr_port_glance::Glancing;
 /// How many steps an inner client makes at most, and how often it is opened at most.
 const TURNS: u64 = u64::MAX;
 
-/// What the thread of an inner client owns: the client, a clock that rests until something is queued for its link, and its random word.
+/// What the thread of an inner client owns: the client, a clock that rests until something is queued for its link, and its random word. The client has the
+/// identifier of the router that its port reaches.
 #[derive(Drop)]
 pub struct InnerJob<P: Glancing + Drop, C: Clock + Drop> {
     admin: Admin<P>,
     clock: PortClock<C, P>,
     word: u64,
+    ghost named: { admin.id ≡ P.router (arc_value admin.port) },
 }
 
 /// The crew could not start the job: its link is down.
@@ -38,7 +40,9 @@ pub struct HandedBack;
 
 impl<P: Glancing + Drop, C: Clock + Drop> InnerJob<P, C> {
     /// The job of an inner client with this random word. Its clock tells this one's time, and rests by the port.
-    pub fn new(admin: Admin<P>, port: Arc<P>, clock: C, word: u64) -> InnerJob<P, C> {
+    pub fn new(admin: Admin<P>, port: Arc<P>, clock: C, word: u64) -> InnerJob<P, C>
+        requires own { admin.id ≡ P.router (arc_value admin.port) }
+    {
         let clock = PortClock::new(clock, port, admin.link);
         InnerJob { admin, clock, word }
     }

@@ -44,8 +44,8 @@ use zr_port_outlet::Outlets;
 use zr_session::Session;
 
 /// What the thread of a link's reader owns: its job, both ways of the link, a clock and a log for it and for the writer that it starts, the port at
-/// which the link reaches the router, a pass of its history, and the crew that starts the writer. There are logs exactly where the job asks for them, and the
-/// port judges by the rules of the job.
+/// which the link reaches the router, a pass of its history, and the crew that starts the writer. There are logs exactly where the job asks for them. The
+/// port is that of a router with the job's identifier, which judges by the rules of the job.
 #[derive(Drop)]
 pub struct Reading<
     S: Source + Drop,
@@ -67,6 +67,7 @@ pub struct Reading<
     pub pass: Pass<Entry>,
     pub crew: Crew<R, LinkNo>,
     ghost ours: { pass_name pass ≡ P.history (arc_value port) },
+    ghost named: { job.start.me ≡ P.router (arc_value port) },
     ghost asked: { (is_some log ≡ job.start.log) × (is_some writer_log ≡ job.start.log) },
     ghost ruled: { job.policy ≡ P.policy (arc_value port) },
 }

@@ -1,6 +1,6 @@
 //! `tell_refusal`: the line that tells why there are no rules.
 
-ghost use Rattle.std.specs.Prelude.{◌≡◌, ◌≤◌, ◌++◌, IfOk};
+ghost use Rattle.std.specs.Prelude.{◌≡◌, ◌<◌, ◌≤◌, ◌++◌, IfOk};
 ghost use Rattle.zr_outside.specs.Counts.{Rose};
 ghost use Rattle.zr_rules.specs.Carets.{CaretsAreUnderWrongKeys, CaretsAreUnderWrongWords};
 ghost use Rattle.zr_rules.specs.Given.{Complains, TellsRules, fault_text, refusal_text, refusal_told};
@@ -37,6 +37,7 @@ pub fn tell_refusal<E: Sink>(
 ) -> RulesEnd
     ensures tells { TellsRules explain error result (E.held err.old) (E.held err.new) }
     ensures write { result ≡ RulesEnd.WriteFault → Rose (E.faults err.old) (E.faults err.new) }
+    ensures only { E.faults err.old < E.faults err.new → result ≡ RulesEnd.WriteFault }
     ensures read { result ≡ RulesEnd.ReadFault → error ≡ RulesError.ReadFault }
     ensures quiet { result ≡ RulesEnd.Refused → E.faults err.new ≡ E.faults err.old }
     ensures later { E.faults err.old ≤ E.faults err.new }
@@ -61,6 +62,7 @@ pub fn tell_refusal<E: Sink>(
 fn complain<E: Sink>(text: &[u8], err: &mut E) -> RulesEnd
     ensures tells { Complains result text.now (E.held err.old) (E.held err.new) }
     ensures write { result ≡ RulesEnd.WriteFault → Rose (E.faults err.old) (E.faults err.new) }
+    ensures only { E.faults err.old < E.faults err.new → result ≡ RulesEnd.WriteFault }
     ensures told { (result ≡ RulesEnd.Refused → ⊥) → result ≡ RulesEnd.WriteFault }
     ensures quiet { result ≡ RulesEnd.Refused → E.faults err.new ≡ E.faults err.old }
     ensures later { E.faults err.old ≤ E.faults err.new }

@@ -1,4 +1,5 @@
 pub mod Words
+pub mod Linked
 pub mod Stepping
 pub mod Reaching
 pub mod Served

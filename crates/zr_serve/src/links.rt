@@ -1,6 +1,6 @@
 //! What the links of a router begin with.
 
-ghost use Rattle.std.specs.Prelude.{◌≡◌, ◌≤◌, ◌+◌, ◌%◌, ◌^◌, ◌++◌, drop, length, take};
+ghost use Rattle.std.specs.Prelude.{◌≡◌, ◌≤◌, ◌+◌, ◌%◌, ◌^◌, ◌++◌, ℕ, List, drop, length, take};
 ghost use Rattle.zr_access.specs.Rules.{PolicyState};
 ghost use Rattle.zr_serve.specs.Jobs.{drawn, first_links, next_start, with_next, word};
 ghost use Rattle.zr_serve.specs.Links.{links_of};
@@ -13,10 +13,9 @@ use zr_msg::peer::Weight;
 /// How often a reader reads at most.
 const TURNS: u64 = u64::MAX;
 
-/// The router's identifier, whether its links have logs, the secret of its cookies, the random words that are left, and the number of the next link.
+/// Whether a router's links have logs, the secret of its cookies, the random words that are left, and the number of the next link.
 #[derive(Drop)]
 pub(crate) struct Links<W: Rng + Drop> {
-    me: Zid,
     log: bool,
     secret: [u8; 32],
     words: W,
@@ -25,15 +24,14 @@ pub(crate) struct Links<W: Rng + Drop> {
 
 impl<W: Rng + Drop> Links<W> {
     /// Before the first link. The secret takes the first four words.
-    pub(crate) fn new(me: Zid, log: bool, mut words: W) -> Links<W>
-        ensures { (rules : PolicyState) → links_of (λ w. W.stream w) rules result ≡ first_links me rules log (W.stream words) }
+    pub(crate) fn new(log: bool, mut words: W) -> Links<W>
+        ensures { (me : List ℕ) (rules : PolicyState) → links_of (λ w. W.stream w) me rules result ≡ first_links me rules log (W.stream words) }
     {
         let first = words.next_u64().to_le_bytes();
         let second = words.next_u64().to_le_bytes();
         let third = words.next_u64().to_le_bytes();
         let fourth = words.next_u64().to_le_bytes();
         Links {
-            me,
             log,
             secret: joined(&first, &second, &third, &fourth),
             words,
@@ -43,23 +41,24 @@ impl<W: Rng + Drop> Links<W> {
 
     /// The next random word, for another use than a link's.
     pub(crate) fn draw(&mut self) -> u64
-        ensures word { (rules : PolicyState) → result ≡ word (links_of (λ w. W.stream w) rules self.old).words }
-        ensures next { (rules : PolicyState) → links_of (λ w. W.stream w) rules self.new ≡ drawn (links_of (λ w. W.stream w) rules self.old) }
+        ensures word { (me : List ℕ) (rules : PolicyState) → result ≡ word (links_of (λ w. W.stream w) me rules self.old).words }
+        ensures next { (me : List ℕ) (rules : PolicyState) → links_of (λ w. W.stream w) me rules self.new ≡ drawn (links_of (λ w. W.stream w) me rules self.old) }
     {
         self.words.next_u64()
     }
 
-    /// How the next link begins, which weighs so much if the peer is a router.
-    pub(crate) fn next(&mut self, side: Side, weight: Weight) -> LinkStart
-        ensures start { (rules : PolicyState) → result ≡ next_start (links_of (λ w. W.stream w) rules self.old) (record { side = side; weight = weight }) }
-        ensures next { (rules : PolicyState) → links_of (λ w. W.stream w) rules self.new ≡ with_next (links_of (λ w. W.stream w) rules self.old) }
+    /// How the next link of this router begins, which weighs so much if the peer is a router.
+    pub(crate) fn next(&mut self, me: Zid, side: Side, weight: Weight) -> LinkStart
+        ensures own { result.me ≡ me }
+        ensures start { (rules : PolicyState) → result ≡ next_start (links_of (λ w. W.stream w) me rules self.old) (record { side = side; weight = weight }) }
+        ensures next { (rules : PolicyState) → links_of (λ w. W.stream w) me rules self.new ≡ with_next (links_of (λ w. W.stream w) me rules self.old) }
     {
         let number = self.count;
         self.count = self.count.wrapping_add(1);
         LinkStart {
             side,
             number,
-            me: self.me,
+            me,
             secret: self.secret,
             word: self.words.next_u64(),
             weight,

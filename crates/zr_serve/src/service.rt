@@ -46,16 +46,18 @@ use zr_port::{DeliverError, Entry, Port, UpError};
 use zr_port_glance::Glancing;
 use zr_port_outlet::Outlets;
 
-/// What the threads of each link are made of: the threads of the system, the port at which links reach the router, the rules by which that judges what
-/// clients send, and a pass of its history.
+/// What the threads of each link are made of: the threads of the system, the router's identifier, the port at which links reach it, the rules by which it
+/// judges what clients send, and a pass of its history.
 #[derive(Drop)]
 pub struct Serving<P: Glancing + Drop, R: Threads + Wait + Copy + Drop> {
     pub rt: R,
     pub alloc: Global,
+    pub me: Zid,
     pub port: Arc<P>,
     pub policy: Shared<Policy>,
     pub pass: Pass<Entry>,
     ghost ours: { pass_name pass ≡ P.history (arc_value port) },
+    ghost named: { me ≡ P.router (arc_value port) },
     ghost ruled: { policy ≡ P.policy (arc_value port) },
 }
 
@@ -86,7 +88,7 @@ where
     H::Time: 'static,
     H::Log: 'static,
     P::Note: Send + 'static,
-    ensures served { IsServed result plan.now.id serving.old.policy plan.now.log plan.now.admin (OpensSpace (P.refuses_up (arc_value serving.old.port)) (P.refuses_message (arc_value serving.old.port)) (seen serving.old.pass) plan.now.id) (RefusesSpace (P.refuses_up (arc_value serving.old.port)) (P.refuses_message (arc_value serving.old.port)) (P.refuses_down (arc_value serving.old.port)) (P.answers_down (arc_value serving.old.port)) (seen serving.old.pass) plan.now.id) (λ b. Hears (P.is_legal (arc_value serving.old.port)) (P.was_used (arc_value serving.old.port)) (seen serving.new.pass) b) (string_bytes plan.now.listen) plan.now.dials.items (H.generators host.old) (H.generators host.new) (H.calls host.old) (H.calls host.new) (crew_told crew.old) (crew_told crew.new) (crew_faults crew.old) (crew_faults crew.new) (outputs (K.held out.old) (E.held err.old) (E.faults err.old)) (outputs (K.held out.new) (E.held err.new) (E.faults err.new)) }
+    ensures served { IsServed result serving.old.me serving.old.policy plan.now.log plan.now.admin (OpensSpace (P.refuses_up (arc_value serving.old.port)) (P.refuses_message (arc_value serving.old.port)) (seen serving.old.pass) serving.old.me) (RefusesSpace (P.refuses_up (arc_value serving.old.port)) (P.refuses_message (arc_value serving.old.port)) (P.refuses_down (arc_value serving.old.port)) (P.answers_down (arc_value serving.old.port)) (seen serving.old.pass) serving.old.me) (λ b. Hears (P.is_legal (arc_value serving.old.port)) (P.was_used (arc_value serving.old.port)) (seen serving.new.pass) b) (string_bytes plan.now.listen) plan.now.dials.items (H.generators host.old) (H.generators host.new) (H.calls host.old) (H.calls host.new) (crew_told crew.old) (crew_told crew.new) (crew_faults crew.old) (crew_faults crew.new) (outputs (K.held out.old) (E.held err.old) (E.faults err.old)) (outputs (K.held out.new) (E.held err.new) (E.faults err.new)) }
     ensures done { result ≡ ServeEnd.Done → Rose (H.ends host.old) (H.ends host.new) }
     ensures host { result ≡ ServeEnd.HostFault → Rose (H.faults host.old) (H.faults host.new) }
     ensures write { result ≡ ServeEnd.WriteFault → Rose (K.faults out.old) (K.faults out.new) ⊎ Rose (E.faults err.old) (E.faults err.new) }
@@ -97,11 +99,12 @@ where
         say_last("no random words\n", err);
         return ServeEnd::HostFault;
     };
-    let mut links = Links::new(plan.id, plan.log, words);
+    let id = serving.me; // a copy, as `serving` is lent
+    let mut links = Links::new(plan.log, words);
     if let Err(end) = open_space(serving, plan, err, host, crew, &mut links) {
         return end;
     }
-    serve_links(serving, plan, out, err, host, crew, &mut links)
+    serve_links(serving, &id, plan, out, err, host, crew, &mut links)
 }
 
 // Opens the administration space where it is asked for, and starts its inner client. Where that is refused it is told, and serving goes on without it.
@@ -123,7 +126,7 @@ where
     H::Time: 'static,
     P::Note: Send + 'static,
     ensures same { (serving.new.policy ≡ serving.old.policy) × (serving.new.port ≡ serving.old.port) }
-    ensures begun { OnOk result ((space : Space) × Begins plan.now.admin (OpensSpace (P.refuses_up (arc_value serving.old.port)) (P.refuses_message (arc_value serving.old.port)) (seen serving.old.pass) plan.now.id) (RefusesSpace (P.refuses_up (arc_value serving.old.port)) (P.refuses_message (arc_value serving.old.port)) (P.refuses_down (arc_value serving.old.port)) (P.answers_down (arc_value serving.old.port)) (seen serving.old.pass) plan.now.id) space (moment (H.calls host.old) (crew_told crew.old) (crew_faults crew.old) (E.held err.old) (links_of (λ w. H.Words.stream w) serving.old.policy links.old)) (moment (H.calls host.new) (crew_told crew.new) (crew_faults crew.new) (E.held err.new) (links_of (λ w. H.Words.stream w) serving.new.policy links.new))) }
+    ensures begun { OnOk result ((space : Space) × Begins plan.now.admin (OpensSpace (P.refuses_up (arc_value serving.old.port)) (P.refuses_message (arc_value serving.old.port)) (seen serving.old.pass) serving.old.me) (RefusesSpace (P.refuses_up (arc_value serving.old.port)) (P.refuses_message (arc_value serving.old.port)) (P.refuses_down (arc_value serving.old.port)) (P.answers_down (arc_value serving.old.port)) (seen serving.old.pass) serving.old.me) space (moment (H.calls host.old) (crew_told crew.old) (crew_faults crew.old) (E.held err.old) (links_of (λ w. H.Words.stream w) serving.old.me serving.old.policy links.old)) (moment (H.calls host.new) (crew_told crew.new) (crew_faults crew.new) (E.held err.new) (links_of (λ w. H.Words.stream w) serving.new.me serving.new.policy links.new))) }
     ensures ended { IfErr result (λ e. (out : Option (List ℕ)) → EndsBefore e plan.now.admin (H.calls host.old) (H.calls host.new) (crew_told crew.old) (crew_told crew.new) (crew_faults crew.old) (crew_faults crew.new) (outputs out (E.held err.old) (E.faults err.old)) (outputs out (E.held err.new) (E.faults err.new))) }
     ensures cause { (result ≡ Err ServeEnd.Done → ⊥) × (result ≡ Err ServeEnd.HostFault → ⊥) × (result ≡ Err ServeEnd.WriteFault → Rose (E.faults err.old) (E.faults err.new)) }
     ensures only { RoseOnlyBy ServeEnd.WriteFault result (E.faults err.old) (E.faults err.new) }
@@ -135,7 +138,7 @@ where
         return Ok(());
     }
     let word = links.draw();
-    match open_inner(serving, plan.id, word) {
+    match open_inner(serving, word) {
         Ok((admin, bells)) => {
             start_inner(InnerJob::new(admin, bells, host.time(), word), err, crew)
         }
@@ -154,12 +157,12 @@ enum Unopened {
 // The inner client of the router, with this random word, and the port once more.
 fn open_inner<P: Glancing + Drop, R: Threads + Wait + Copy + Drop>(
     serving: &mut Serving<P, R>,
-    id: Zid,
     word: u64,
 ) -> Result<(Admin<P>, Arc<P>), Unopened>
-    ensures same { (serving.new.policy ≡ serving.old.policy) × (serving.new.port ≡ serving.old.port) }
-    ensures opened { OnOk result (OpensSpace (P.refuses_up (arc_value serving.old.port)) (P.refuses_message (arc_value serving.old.port)) (seen serving.old.pass) id word) }
-    ensures refused { result ≡ Err Unopened.Refused → RefusesSpace (P.refuses_up (arc_value serving.old.port)) (P.refuses_message (arc_value serving.old.port)) (P.refuses_down (arc_value serving.old.port)) (P.answers_down (arc_value serving.old.port)) (seen serving.old.pass) id word }
+    ensures same { (serving.new.policy ≡ serving.old.policy) × (serving.new.port ≡ serving.old.port) × (serving.new.me ≡ serving.old.me) }
+    ensures named { IfOk result (λ r. r.0.id ≡ P.router (arc_value r.0.port)) }
+    ensures opened { OnOk result (OpensSpace (P.refuses_up (arc_value serving.old.port)) (P.refuses_message (arc_value serving.old.port)) (seen serving.old.pass) serving.old.me word) }
+    ensures refused { result ≡ Err Unopened.Refused → RefusesSpace (P.refuses_up (arc_value serving.old.port)) (P.refuses_message (arc_value serving.old.port)) (P.refuses_down (arc_value serving.old.port)) (P.answers_down (arc_value serving.old.port)) (seen serving.old.pass) serving.old.me word }
 {
     let Ok(port) = Arc::try_clone(&serving.port) else {
         return Err(Unopened::NoMemory);
@@ -168,7 +171,7 @@ fn open_inner<P: Glancing + Drop, R: Threads + Wait + Copy + Drop>(
         return Err(Unopened::NoMemory);
     };
     let pass = serving.port.split(&mut serving.pass);
-    match Admin::open(serving.alloc, port, pass, id, word) {
+    match Admin::open(serving.alloc, port, pass, serving.me, word) {
         Ok(admin) => Ok((admin, bells)),
         Err(refused) => {
             let (e, pass) = refused;
@@ -219,6 +222,7 @@ fn serve_links<
     R: Threads + Wait + Copy + Send + Sync + Drop + 'static,
 >(
     serving: &mut Serving<P, R>,
+    id: &Zid,
     plan: &ServePlan,
     out: &mut K,
     err: &mut E,
@@ -232,7 +236,7 @@ where
     H::Time: 'static,
     H::Log: 'static,
     P::Note: Send + 'static,
-    ensures served { IsServedFrom result (λ b. Hears (P.is_legal (arc_value serving.old.port)) (P.was_used (arc_value serving.old.port)) (seen serving.new.pass) b) plan.now.id (string_bytes plan.now.listen) plan.now.dials.items (moment (H.calls host.old) (crew_told crew.old) (crew_faults crew.old) (E.held err.old) (links_of (λ w. H.Words.stream w) serving.old.policy links.old)) (H.calls host.new) (crew_told crew.new) (crew_faults crew.new) (outputs (K.held out.old) (E.held err.old) (E.faults err.old)) (outputs (K.held out.new) (E.held err.new) (E.faults err.new)) }
+    ensures served { IsServedFrom result (λ b. Hears (P.is_legal (arc_value serving.old.port)) (P.was_used (arc_value serving.old.port)) (seen serving.new.pass) b) id.now (string_bytes plan.now.listen) plan.now.dials.items (moment (H.calls host.old) (crew_told crew.old) (crew_faults crew.old) (E.held err.old) (links_of (λ w. H.Words.stream w) serving.old.me serving.old.policy links.old)) (H.calls host.new) (crew_told crew.new) (crew_faults crew.new) (outputs (K.held out.old) (E.held err.old) (E.faults err.old)) (outputs (K.held out.new) (E.held err.new) (E.faults err.new)) }
     ensures done { result ≡ ServeEnd.Done → Rose (H.ends host.old) (H.ends host.new) }
     ensures host { result ≡ ServeEnd.HostFault → Rose (H.faults host.old) (H.faults host.new) }
     ensures write { result ≡ ServeEnd.WriteFault → Rose (K.faults out.old) (K.faults out.new) ⊎ Rose (E.faults err.old) (E.faults err.new) }
@@ -244,13 +248,13 @@ where
         say_not_listening(plan.listen.as_str(), err);
         return ServeEnd::HostFault;
     }
-    if let Err(unsaid) = say_serving(serving.alloc, &plan.id, out) {
+    if let Err(unsaid) = say_serving(serving.alloc, id, out) {
         return unsaid.end();
     }
     if let Err(end) = dial_all(serving, plan.dials.as_slice(), err, host, crew, links) {
         return end;
     }
-    let end = accept_all(serving, &plan.id, err, host, crew, links);
+    let end = accept_all(serving, id, err, host, crew, links);
     tell_end(end, err);
     end
 }
@@ -289,8 +293,8 @@ where
     H::Time: 'static,
     H::Log: 'static,
     P::Note: Send + 'static,
-    ensures dialled { OnOk result ((gave : List Bool) × (length gave ≡ length targets.now) × Serves (dials targets.now gave) (moment (H.calls host.old) (crew_told crew.old) (crew_faults crew.old) (E.held err.old) (links_of (λ w. H.Words.stream w) serving.old.policy links.old)) (moment (H.calls host.new) (crew_told crew.new) (crew_faults crew.new) (E.held err.new) (links_of (λ w. H.Words.stream w) serving.new.policy links.new))) }
-    ensures stopped { OnErr result ((gave : List Bool) × BreaksOff (dials targets.now gave) (moment (H.calls host.old) (crew_told crew.old) (crew_faults crew.old) (E.held err.old) (links_of (λ w. H.Words.stream w) serving.old.policy links.old)) (moment (H.calls host.new) (crew_told crew.new) (crew_faults crew.new) (E.held err.new) (links_of (λ w. H.Words.stream w) serving.new.policy links.new))) }
+    ensures dialled { OnOk result ((gave : List Bool) × (length gave ≡ length targets.now) × Serves (dials targets.now gave) (moment (H.calls host.old) (crew_told crew.old) (crew_faults crew.old) (E.held err.old) (links_of (λ w. H.Words.stream w) serving.old.me serving.old.policy links.old)) (moment (H.calls host.new) (crew_told crew.new) (crew_faults crew.new) (E.held err.new) (links_of (λ w. H.Words.stream w) serving.new.me serving.new.policy links.new))) }
+    ensures stopped { OnErr result ((gave : List Bool) × BreaksOff (dials targets.now gave) (moment (H.calls host.old) (crew_told crew.old) (crew_faults crew.old) (E.held err.old) (links_of (λ w. H.Words.stream w) serving.old.me serving.old.policy links.old)) (moment (H.calls host.new) (crew_told crew.new) (crew_faults crew.new) (E.held err.new) (links_of (λ w. H.Words.stream w) serving.new.me serving.new.policy links.new))) }
     ensures cause { (result ≡ Err ServeEnd.Done → ⊥) × (result ≡ Err ServeEnd.HostFault → ⊥) × (result ≡ Err ServeEnd.WriteFault → Rose (E.faults err.old) (E.faults err.new)) }
     ensures only { RoseOnlyBy ServeEnd.WriteFault result (E.faults err.old) (E.faults err.new) }
     ensures later { (E.faults err.old ≤ E.faults err.new) × (H.faults host.old ≤ H.faults host.new) × (H.ends host.old ≤ H.ends host.new) }
@@ -326,8 +330,8 @@ where
     H::Time: 'static,
     H::Log: 'static,
     P::Note: Send + 'static,
-    ensures dialled { OnOk result ((is_link : Bool) × Serves (dial_call target.now is_link ∷ []) (moment (H.calls host.old) (crew_told crew.old) (crew_faults crew.old) (E.held err.old) (links_of (λ w. H.Words.stream w) serving.old.policy links.old)) (moment (H.calls host.new) (crew_told crew.new) (crew_faults crew.new) (E.held err.new) (links_of (λ w. H.Words.stream w) serving.new.policy links.new))) }
-    ensures stopped { OnErr result ((is_link : Bool) × BreaksOff (dial_call target.now is_link ∷ []) (moment (H.calls host.old) (crew_told crew.old) (crew_faults crew.old) (E.held err.old) (links_of (λ w. H.Words.stream w) serving.old.policy links.old)) (moment (H.calls host.new) (crew_told crew.new) (crew_faults crew.new) (E.held err.new) (links_of (λ w. H.Words.stream w) serving.new.policy links.new))) }
+    ensures dialled { OnOk result ((is_link : Bool) × Serves (dial_call target.now is_link ∷ []) (moment (H.calls host.old) (crew_told crew.old) (crew_faults crew.old) (E.held err.old) (links_of (λ w. H.Words.stream w) serving.old.me serving.old.policy links.old)) (moment (H.calls host.new) (crew_told crew.new) (crew_faults crew.new) (E.held err.new) (links_of (λ w. H.Words.stream w) serving.new.me serving.new.policy links.new))) }
+    ensures stopped { OnErr result ((is_link : Bool) × BreaksOff (dial_call target.now is_link ∷ []) (moment (H.calls host.old) (crew_told crew.old) (crew_faults crew.old) (E.held err.old) (links_of (λ w. H.Words.stream w) serving.old.me serving.old.policy links.old)) (moment (H.calls host.new) (crew_told crew.new) (crew_faults crew.new) (E.held err.new) (links_of (λ w. H.Words.stream w) serving.new.me serving.new.policy links.new))) }
     ensures cause { (result ≡ Err ServeEnd.Done → ⊥) × (result ≡ Err ServeEnd.HostFault → ⊥) × (result ≡ Err ServeEnd.WriteFault → Rose (E.faults err.old) (E.faults err.new)) }
     ensures only { RoseOnlyBy ServeEnd.WriteFault result (E.faults err.old) (E.faults err.new) }
     ensures later { (E.faults err.old ≤ E.faults err.new) × (H.faults host.old ≤ H.faults host.new) × (H.ends host.old ≤ H.ends host.new) }
@@ -379,7 +383,7 @@ where
     H::Time: 'static,
     H::Log: 'static,
     P::Note: Send + 'static,
-    ensures ended { (held : Option (List ℕ)) → Accepts result (moment (H.calls host.old) (crew_told crew.old) (crew_faults crew.old) held (links_of (λ w. H.Words.stream w) serving.old.policy links.old)) (moment (H.calls host.new) (crew_told crew.new) (crew_faults crew.new) held (links_of (λ w. H.Words.stream w) serving.new.policy links.new)) }
+    ensures ended { (held : Option (List ℕ)) → Accepts result (moment (H.calls host.old) (crew_told crew.old) (crew_faults crew.old) held (links_of (λ w. H.Words.stream w) serving.old.me serving.old.policy links.old)) (moment (H.calls host.new) (crew_told crew.new) (crew_faults crew.new) held (links_of (λ w. H.Words.stream w) serving.new.me serving.new.policy links.new)) }
     ensures told { Uses result (λ b. Hears (P.is_legal (arc_value serving.old.port)) (P.was_used (arc_value serving.old.port)) (seen serving.new.pass) b) id.now (E.held err.old) (E.held err.new) }
     ensures cause { (result ≡ ServeEnd.Done → Rose (H.ends host.old) (H.ends host.new)) × (result ≡ ServeEnd.HostFault → Rose (H.faults host.old) (H.faults host.new)) × (result ≡ ServeEnd.WriteFault → Rose (E.faults err.old) (E.faults err.new)) }
     ensures only { E.faults err.old < E.faults err.new → result ≡ ServeEnd.WriteFault }
@@ -412,7 +416,7 @@ fn tell_used<
 >(serving: &mut Serving<P, R>, id: &Zid, was_told: bool, err: &mut E) -> Result<bool, Unsaid>
 where
     P::Note: Send + 'static,
-    ensures same { (serving.new.port ≡ serving.old.port) × (serving.new.policy ≡ serving.old.policy) }
+    ensures same { (serving.new.port ≡ serving.old.port) × (serving.new.policy ≡ serving.old.policy) × (serving.new.me ≡ serving.old.me) }
     ensures told { IfOk result (λ told. was_told ≡ false → Hears (P.is_legal (arc_value serving.old.port)) (P.was_used (arc_value serving.old.port)) (seen serving.new.pass) told × Appends (told_text id.now told) (E.held err.old) (E.held err.new)) }
     ensures skips { was_told ≡ true → (result ≡ Ok true) × (seen serving.new.pass ≡ seen serving.old.pass) × (E.held err.new ≡ E.held err.old) }
     ensures part { OnErr result (Hears (P.is_legal (arc_value serving.old.port)) (P.was_used (arc_value serving.old.port)) (seen serving.new.pass) true × AppendsPrefix (used_text id.now) (E.held err.old) (E.held err.new)) }
@@ -450,8 +454,8 @@ where
     H::Time: 'static,
     H::Log: 'static,
     P::Note: Send + 'static,
-    ensures going { (held : Option (List ℕ)) → OnOk result ((a : Answer) × IsGoing a × Serves (accepts (a ∷ [])) (moment (H.calls host.old) (crew_told crew.old) (crew_faults crew.old) held (links_of (λ w. H.Words.stream w) serving.old.policy links.old)) (moment (H.calls host.new) (crew_told crew.new) (crew_faults crew.new) held (links_of (λ w. H.Words.stream w) serving.new.policy links.new))) }
-    ensures stops { (held : Option (List ℕ)) → IfErr result (λ e. Stops e (moment (H.calls host.old) (crew_told crew.old) (crew_faults crew.old) held (links_of (λ w. H.Words.stream w) serving.old.policy links.old)) (moment (H.calls host.new) (crew_told crew.new) (crew_faults crew.new) held (links_of (λ w. H.Words.stream w) serving.new.policy links.new))) }
+    ensures going { (held : Option (List ℕ)) → OnOk result ((a : Answer) × IsGoing a × Serves (accepts (a ∷ [])) (moment (H.calls host.old) (crew_told crew.old) (crew_faults crew.old) held (links_of (λ w. H.Words.stream w) serving.old.me serving.old.policy links.old)) (moment (H.calls host.new) (crew_told crew.new) (crew_faults crew.new) held (links_of (λ w. H.Words.stream w) serving.new.me serving.new.policy links.new))) }
+    ensures stops { (held : Option (List ℕ)) → IfErr result (λ e. Stops e (moment (H.calls host.old) (crew_told crew.old) (crew_faults crew.old) held (links_of (λ w. H.Words.stream w) serving.old.me serving.old.policy links.old)) (moment (H.calls host.new) (crew_told crew.new) (crew_faults crew.new) held (links_of (λ w. H.Words.stream w) serving.new.me serving.new.policy links.new))) }
     ensures done { result ≡ Err ServeEnd.Done → Rose (H.ends host.old) (H.ends host.new) }
     ensures host { result ≡ Err ServeEnd.HostFault → Rose (H.faults host.old) (H.faults host.new) }
     ensures later { (H.faults host.old ≤ H.faults host.new) × (H.ends host.old ≤ H.ends host.new) }
@@ -501,14 +505,14 @@ where
     H::Time: 'static,
     H::Log: 'static,
     P::Note: Send + 'static,
-    ensures started { Starts (next_job (links_of (λ w. H.Words.stream w) serving.old.policy links.old) (record { side = side; weight = weight }) ∷ []) (crew_told crew.old) (crew_told crew.new) (crew_faults crew.old) (crew_faults crew.new) }
-    ensures links { links_of (λ w. H.Words.stream w) serving.new.policy links.new ≡ with_next (links_of (λ w. H.Words.stream w) serving.old.policy links.old) }
+    ensures started { Starts (next_job (links_of (λ w. H.Words.stream w) serving.old.me serving.old.policy links.old) (record { side = side; weight = weight }) ∷ []) (crew_told crew.old) (crew_told crew.new) (crew_faults crew.old) (crew_faults crew.new) }
+    ensures links { links_of (λ w. H.Words.stream w) serving.new.me serving.new.policy links.new ≡ with_next (links_of (λ w. H.Words.stream w) serving.old.me serving.old.policy links.old) }
     ensures told { H.calls host.new ≡ H.calls host.old }
     ensures counts { (H.faults host.new ≡ H.faults host.old) × (H.ends host.new ≡ H.ends host.old) }
     ensures same { (serving.new.port ≡ serving.old.port) × (seen serving.new.pass ≡ seen serving.old.pass) }
     ensures undrawn { H.generators host.new ≡ H.generators host.old }
 {
-    let begins = links.next(side, weight);
+    let begins = links.next(serving.me, side, weight);
     // what may fail comes first, while there is little to be let go
     let Ok((port, policy, inner)) = shared(serving) else {
         turn_away(&mut sink);

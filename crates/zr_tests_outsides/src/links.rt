@@ -35,6 +35,7 @@ pub struct Desk<P: Port + Drop, R: Wait + Copy + Drop> {
     pub policy: Shared<Policy>,
     pub pass: Pass<Entry>,
     ghost ours: { pass_name pass ≡ P.history (arc_value port) },
+    ghost named: { me ≡ P.router (arc_value port) },
     ghost ruled: { policy ≡ P.policy (arc_value port) },
 }
 
@@ -110,7 +111,8 @@ impl<R: Threads + Drop> Watched<R> {
 }
 
 fn start(me: Zid, begin: Begin) -> LinkStart
-    ensures { result.log ≡ true }
+    ensures log { result.log ≡ true }
+    ensures own { result.me ≡ me }
 {
     LinkStart {
         side: begin.side,

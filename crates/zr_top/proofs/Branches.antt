@@ -1,6 +1,6 @@
 -- What holds of a run by what its words ask for.
 use Rattle.std.proofs.Common.{◌≡◌, ◌<◌, ◌≤◌, ◌∙◌, ◌⊎◌, ◌||◌, ℕ, Bool, false, refl, sym, ap, subst, List, [], Option, Some, None, Result, Ok, Err, inl, inr, true≢false, true}
-use Rattle.std.specs.Prelude.{IfSome, is_some, option_and_then}
+use Rattle.std.specs.Prelude.{IfSome, is_some}
 use Rattle.std.specs.List.{list_any}
 use Rattle.std.specs.Option.{option_map_or}
 use Rattle.rand_core.specs.Stream.{Stream}
@@ -21,16 +21,16 @@ use Rattle.zr_outside.specs.declared.host.Call.{Call}
 use Rattle.zr_outside.proofs.Appending.{prefix_none}
 use Rattle.zr_serve.proofs.Served.{not_begun}
 use Rattle.zr_serve.specs.Serving.{Outputs}
+use Rattle.zr_serve.specs.declared.end.ServeEnd.{ServeEnd}
 use Rattle.zr_serve.specs.declared.end.ServeEnd.TheVariants as end
 use Rattle.zr_rules.specs.Given.{OfBytes, TellsRules}
 use Rattle.zr_rules.specs.declared.telling.RulesEnd.{RulesEnd}
 use Rattle.zr_rules.specs.declared.telling.RulesEnd.TheVariants as rules_end
 use Rattle.zr_rules.specs.declared.rules.RulesError.{RulesError}
 use Rattle.zr_rules.specs.declared.rules.RulesError.TheVariants as rules_error
-use Rattle.zr_top.specs.Asked.{Answers, HasRules, IsServingBy}
+use Rattle.zr_top.specs.Asked.{Answers, HasRules, IsServingBy, status_of}
 use Rattle.zr_top.specs.Told.{IsUnhindered}
 use Rattle.zr_top.specs.Words.{asks_rules, options_by, reads_input}
-use Rattle.zr_top_words.specs.Asked as words_asked
 use Rattle.zr_top_words.specs.Asked.{Asked, Served, asked_of, net_of, net_part, serve_part, served_of}
 use Rattle.zr_top_words.specs.declared.plan.NetPlan.{NetPlan}
 use Rattle.zr_top_words.specs.declared.plan.Plan.{Plan}
@@ -125,22 +125,15 @@ unhindered status.HostFault P Q R H read write host no_read no_out no_err no_hos
 
 -- ---- words of `net`
 
--- they ask for no router
-net_serves_none : (asked : Option Asked) (plan : NetPlan) → option_and_then net_part asked ≡ Some plan → is_some (option_and_then serve_part asked) ≡ false
-net_serves_none None plan is = refl
-net_serves_none (Some (words_asked.net p)) plan is = refl
-net_serves_none (Some (words_asked.serve p)) plan is = absurd (some≢none plan (sym is))
-net_serves_none (Some (words_asked.make p)) plan is = absurd (some≢none plan (sym is))
-
 -- what has ended was reported before each read
-pub net_reports_before_reads : (words : List (List ℕ)) (left next : Option (List ℕ)) (InputEnded : Type 0) (e : Status) (a b c d : Option (List ℕ)) (r r' w w' : ℕ) (Other : Type 0) →
+pub net_reports_before_reads : (words : List (List ℕ)) (left next : Option (List ℕ)) (InputEnded : Type 0) (e : Status) (a b c d : Option (List ℕ)) (r r' w w' : ℕ) →
     IfSome (net_of words) (λ plan. WritesAsAsked (options_by plan) left next InputEnded e a b c d) → (r < r' → e ≡ status.ReadFault) →
-    (is_some (served_of words) ≡ false → (w < w' → e ≡ status.WriteFault) × Other) → w ≤ w' → IfSome (net_of words) (λ plan. ReportsBeforeReads (options_by plan) left next a b r r' w w')
-net_reports_before_reads words left next InputEnded e a b c d r r' w w' Other writes read write later = by (net_of words) refl writes
+    (w < w' → e ≡ status.WriteFault) → w ≤ w' → IfSome (net_of words) (λ plan. ReportsBeforeReads (options_by plan) left next a b r r' w w')
+net_reports_before_reads words left next InputEnded e a b c d r r' w w' writes read write later = by (net_of words) writes
   where
-    by : (found : Option NetPlan) → net_of words ≡ found → IfSome found (λ plan. WritesAsAsked (options_by plan) left next InputEnded e a b c d) → IfSome found (λ plan. ReportsBeforeReads (options_by plan) left next a b r r' w w')
-    by None is h = tt
-    by (Some plan) is h = reports_before_reads (options_by plan) left next InputEnded e a b c d r r' w w' h read (write (net_serves_none (asked_of words) plan is)).0 later
+    by : (found : Option NetPlan) → IfSome found (λ plan. WritesAsAsked (options_by plan) left next InputEnded e a b c d) → IfSome found (λ plan. ReportsBeforeReads (options_by plan) left next a b r r' w w')
+    by None h = tt
+    by (Some plan) h = reports_before_reads (options_by plan) left next InputEnded e a b c d r r' w w' h read write later
 
 -- ---- whether the input is read
 
@@ -163,3 +156,15 @@ serve_plan_reads words p q net serve is =
 -- a plan of `serve` is one that the words ask for
 pub serve_plan_asked : (words : List (List ℕ)) (p : Plan) (q : ServeWords) → serve_part (asked_as p) ≡ served_of words → p ≡ plan.Serve q → is_some (served_of words) ≡ true
 serve_plan_asked words p q serve is = ap is_some (sym serve ∙ ap (λ z. serve_part (asked_as z)) is)
+
+-- ---- a failed write
+
+-- a router's end tells it, or that its host has failed
+pub write_or_host : (e : Status) (Asked : Type 0) → Asked → (e ≡ status.WriteFault) ⊎ (e ≡ status.HostFault) → (e ≡ status.WriteFault) ⊎ (e ≡ status.Words) ⊎ (Asked × (e ≡ status.HostFault))
+write_or_host e Asked asked (inl write) = inl write
+write_or_host e Asked asked (inr host) = inr (inr (asked, host))
+
+-- the end of serving becomes the status
+pub served_fault : (how : ServeEnd) (e : Status) → e ≡ status_of how → (how ≡ end.WriteFault) ⊎ (how ≡ end.HostFault) → (e ≡ status.WriteFault) ⊎ (e ≡ status.HostFault)
+served_fault how e is (inl write) = inl (is ∙ ap status_of write)
+served_fault how e is (inr host) = inr (is ∙ ap status_of host)

@@ -78,7 +78,7 @@ where
     ensures read { result ≡ Status.ReadFault → Rose (S.faults input.old) (S.faults input.new) }
     ensures read_told { S.faults input.old < S.faults input.new → result ≡ Status.ReadFault }
     ensures write { result ≡ Status.WriteFault → Rose (K.faults out.old) (K.faults out.new) ⊎ Rose (E.faults err.old) (E.faults err.new) }
-    ensures write_told { is_some (served_of (map string_bytes words.now)) ≡ false → (K.faults out.old < K.faults out.new → result ≡ Status.WriteFault) × (E.faults err.old < E.faults err.new → (result ≡ Status.WriteFault) ⊎ (result ≡ Status.Words)) }
+    ensures write_told { (K.faults out.old < K.faults out.new → result ≡ Status.WriteFault) × (E.faults err.old < E.faults err.new → (result ≡ Status.WriteFault) ⊎ (result ≡ Status.Words) ⊎ ((is_some (served_of (map string_bytes words.now)) ≡ true) × (result ≡ Status.HostFault))) }
     ensures words { (result ≡ Status.Words → IsWrong (map string_bytes words.now)) × (IsRefused (map string_bytes words.now) → (result ≡ Status.Words) ⊎ (result ≡ Status.NoMemory)) }
     ensures input_later { S.faults input.old ≤ S.faults input.new }
     ensures out_later { K.faults out.old ≤ K.faults out.new }
@@ -154,6 +154,7 @@ where
     ensures read { result ≡ Status.ReadFault → Rose (S.faults input.old) (S.faults input.new) }
     ensures read_told { S.faults input.old < S.faults input.new → result ≡ Status.ReadFault }
     ensures write { result ≡ Status.WriteFault → Rose (K.faults out.old) (K.faults out.new) ⊎ Rose (E.faults err.old) (E.faults err.new) }
+    ensures write_told { (K.faults out.old < K.faults out.new → result ≡ Status.WriteFault) × (E.faults err.old < E.faults err.new → (result ≡ Status.WriteFault) ⊎ (result ≡ Status.HostFault)) }
     ensures refused { result ≡ Status.Refused → (words.rules ≡ true) × (E.faults err.new ≡ E.faults err.old) }
     ensures untouched { (result ≡ Status.Refused → (host.new ≡ host.old) × (crew.new ≡ crew.old)) × (result ≡ Status.ReadFault → (host.new ≡ host.old) × (crew.new ≡ crew.old)) }
     ensures unread { words.rules ≡ false → input.new ≡ input.old }
@@ -202,17 +203,18 @@ where
     ensures ended { result ≡ Status.Done → Rose (H.ends host.old) (H.ends host.new) }
     ensures host { result ≡ Status.HostFault → Rose (H.faults host.old) (H.faults host.new) }
     ensures write { result ≡ Status.WriteFault → Rose (K.faults out.old) (K.faults out.new) ⊎ Rose (E.faults err.old) (E.faults err.new) }
+    ensures write_told { (K.faults out.old < K.faults out.new → result ≡ Status.WriteFault) × (E.faults err.old < E.faults err.new → (result ≡ Status.WriteFault) ⊎ (result ≡ Status.HostFault)) }
     ensures none { (result ≡ Status.Words → ⊥) × (result ≡ Status.Refused → ⊥) × (result ≡ Status.ReadFault → ⊥) }
     ensures later { (K.faults out.old ≤ K.faults out.new) × (E.faults err.old ≤ E.faults err.new) }
 {
+    let id = words.id;
     let plan = ServePlan {
-        id: words.id,
         listen: words.listen,
         dials: words.dials,
         log: words.log,
         admin: words.admin,
     };
-    status_of(serve_router(rt, alloc, &plan, policy, out, err, host, crew))
+    status_of(serve_router(rt, alloc, id, &plan, policy, out, err, host, crew))
 }
 
 fn status_of(end: ServeEnd) -> Status

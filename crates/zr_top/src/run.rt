@@ -139,14 +139,14 @@ use zr_tree::laws::{distances_are_of_shortest_walks, records_make_graphs};
 /// on what their links weigh, nor on the trees that they name (`names`). The premises stand in `zr_law_running` (`specs/Allowed`).
 ///
 /// The clause `served` says which rules were read, and where a router was served under them, what was called of the host, which jobs the crew started, and what
-/// was written. Where a line of the rules is wrong, the caret that is told is under what is wrong there (`carets`). Where the rules are refused, or can't be read, the host and the crew are as they were (`untouched`). The clause
+/// was written. A job names the identifier of the words and these rules: by the type of a job's parts they are those of the router at its port. Where a line of the rules is wrong, the caret that is told is under what is wrong there (`carets`). Where the rules are refused, or can't be read, the host and the crew are as they were (`untouched`). The clause
 /// `made` says which text was written, where a script was made: all of it at `Done`, and else a prefix. Where `clap` may answer with help or the version,
 /// that is told whole, or else in part, or the words are wrong (`helped`).
 /// With all other words than those of `serve` the host and the crew are as they were (`unserved`), and with all other words than those of `net` and of `serve` with `--rules` the input is (`unread`).
 /// Where nothing outside fails, all was done, a line or the words were refused, or memory ran out (`complete`).
 /// Where a read of a script failed no write did, and the report of all lines that had ended was written, so none is kept back over a read (`prompt`).
-/// Where a read of the input failed the status says so (`read_told`), and with all other words than those of `serve` where a write failed (`write_told`):
-/// but the usage line tells wrong words, and where it can't be written they are wrong all the same.
+/// Where a read of the input failed the status says so (`read_told`), and where a write failed (`write_told`): but the usage line tells wrong words, and where
+/// it can't be written they are wrong all the same. So too the host of a router that is served has failed where the line that tells so can't be written.
 pub fn run<
     S: Source,
     K: Sink,
@@ -214,7 +214,7 @@ where
     ensures read { result ≡ Status.ReadFault → Rose (S.faults input.old) (S.faults input.new) }
     ensures read_told { S.faults input.old < S.faults input.new → result ≡ Status.ReadFault }
     ensures write { result ≡ Status.WriteFault → Rose (K.faults out.old) (K.faults out.new) ⊎ Rose (E.faults err.old) (E.faults err.new) }
-    ensures write_told { is_some (served_of (map string_bytes words.now)) ≡ false → (K.faults out.old < K.faults out.new → result ≡ Status.WriteFault) × (E.faults err.old < E.faults err.new → (result ≡ Status.WriteFault) ⊎ (result ≡ Status.Words)) }
+    ensures write_told { (K.faults out.old < K.faults out.new → result ≡ Status.WriteFault) × (E.faults err.old < E.faults err.new → (result ≡ Status.WriteFault) ⊎ (result ≡ Status.Words) ⊎ ((is_some (served_of (map string_bytes words.now)) ≡ true) × (result ≡ Status.HostFault))) }
     ensures complete { (Rose (S.faults input.old) (S.faults input.new) → ⊥) → (Rose (K.faults out.old) (K.faults out.new) → ⊥) → (Rose (E.faults err.old) (E.faults err.new) → ⊥) → (Rose (H.faults host.old) (H.faults host.new) → ⊥) → IsUnhindered result }
     ensures words { (result ≡ Status.Words → IsWrong (map string_bytes words.now)) × (IsRefused (map string_bytes words.now) → (result ≡ Status.Words) ⊎ (result ≡ Status.NoMemory)) }
     ensures forms { FormsAreTaken }

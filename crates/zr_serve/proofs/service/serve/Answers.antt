@@ -17,7 +17,7 @@ returns-in-Err-clause-served g c =
 
 pub returns-clause-served : goal.returns-clause-served
 returns-clause-served g c =
-    passed _ _ _ _ _ _ _ _ _ _ _ _ _ _ _ _ _ _ _ _ (λ w. g.H.Words.Rng.stream w) c.in-Some.words _ c.in-Some.ensures.drawn (c.serve_links.ensures.undrawn ∙ c.open_space.ensures.undrawn) _ _ _ _ _ _ _ _ (c.new-links.ensures _) c.in-Some.ensures.told
+    passed _ _ _ _ _ _ _ _ _ _ _ _ _ _ _ _ _ _ _ _ (λ w. g.H.Words.Rng.stream w) c.in-Some.words _ c.in-Some.ensures.drawn (c.serve_links.ensures.undrawn ∙ c.open_space.ensures.undrawn) _ _ _ _ _ _ _ _ (c.new-links.ensures _ _) c.in-Some.ensures.told
     c.in_default-open_space.ensures.begun refl c.open_space.ensures.later
     (served_at (λ p h. g.P.Port.is_legal (arc_value p) h) (λ p h. g.P.Glancing.was_used (arc_value p) h) c.args.serving.now.port _ (seen c.serve_links.new.serving.pass) c.open_space.ensures.same.1 _ _ _ _ _ _ _ _ _ _ c.serve_links.ensures.served)
 

@@ -1,5 +1,5 @@
 use Rattle.std.proofs.Common.{◌∙◌, inl, inr, sym, true≢false, arith}
-use Rattle.zr_top.proofs.Branches.{net_plan_reads, not_answered, not_refused, serve_plan_asked, serve_plan_reads}
+use Rattle.zr_top.proofs.Branches.{net_plan_reads, not_answered, not_refused, serve_plan_asked, serve_plan_reads, write_or_host}
 use Rattle.zr_top.proofs.asked.run_asked.Goals as goal
 
 -- words with a plan are not answered, nor refused
@@ -36,21 +36,24 @@ pub returns-in-Ok-Serve-clause-refused : goal.returns-in-Ok-Serve-clause-refused
 returns-in-Ok-Serve-clause-refused g c it =
     serve_plan_reads _ _ _ c.in-Ok-Serve.ensures.net c.in-Ok-Serve.ensures.serve c.in-Ok-Serve.field-0-is ∙ (c.serve.ensures.refused it).0
 
--- a write that failed is told as that, or beside wrong words as these
+-- a write that failed is told as that, beside wrong words as these, or behind a host that failed as that
 pub returns-in-Ok-Net-clause-write_told : goal.returns-in-Ok-Net-clause-write_told
-returns-in-Ok-Net-clause-write_told g c other = (c.read_script.ensures.only_write.0, λ rose. inl (c.read_script.ensures.only_write.1 rose))
+returns-in-Ok-Net-clause-write_told g c = (c.read_script.ensures.only_write.0, λ rose. inl (c.read_script.ensures.only_write.1 rose))
 
 pub returns-in-Ok-Serve-clause-write_told : goal.returns-in-Ok-Serve-clause-write_told
-returns-in-Ok-Serve-clause-write_told g c other = absurd (true≢false (sym (serve_plan_asked _ _ _ c.in-Ok-Serve.ensures.serve c.in-Ok-Serve.field-0-is) ∙ other))
+returns-in-Ok-Serve-clause-write_told g c = (
+  c.serve.ensures.write_told.0,
+  λ rose. write_or_host _ _ (serve_plan_asked _ _ _ c.in-Ok-Serve.ensures.serve c.in-Ok-Serve.field-0-is) (c.serve.ensures.write_told.1 rose),
+)
 
 pub returns-in-Ok-Make-clause-write_told : goal.returns-in-Ok-Make-clause-write_told
-returns-in-Ok-Make-clause-write_told g c other = (c.make_script.ensures.only, λ rose. absurd (omega (arith, rose)))
+returns-in-Ok-Make-clause-write_told g c = (c.make_script.ensures.only, λ rose. absurd (omega (arith, rose)))
 
 pub returns-in-Err-Told-clause-write_told : goal.returns-in-Err-Told-clause-write_told
-returns-in-Err-Told-clause-write_told g c other = (c.tell.ensures.only, λ rose. absurd (omega (arith, rose)))
+returns-in-Err-Told-clause-write_told g c = (c.tell.ensures.only, λ rose. absurd (omega (arith, rose)))
 
 pub returns-in-Err-Wrong-clause-write_told : goal.returns-in-Err-Wrong-clause-write_told
-returns-in-Err-Wrong-clause-write_told g c other = (λ rose. absurd (omega (arith, rose)), λ rose. inr c.usage.ensures.words)
+returns-in-Err-Wrong-clause-write_told g c = (λ rose. absurd (omega (arith, rose)), λ rose. inr (inl c.usage.ensures.words))
 
 pub returns-in-Err-NoMemory-clause-write_told : goal.returns-in-Err-NoMemory-clause-write_told
-returns-in-Err-NoMemory-clause-write_told g c other = (λ rose. absurd (omega (arith, rose)), λ rose. absurd (omega (arith, rose)))
+returns-in-Err-NoMemory-clause-write_told g c = (λ rose. absurd (omega (arith, rose)), λ rose. absurd (omega (arith, rose)))

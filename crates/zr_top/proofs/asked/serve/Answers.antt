@@ -1,5 +1,5 @@
 -- With rules the router was served; without them only that was told.
-use Rattle.std.proofs.Common.{◌≡◌, ◌∙◌, ap, Ok, Err, refl}
+use Rattle.std.proofs.Common.{◌≡◌, ◌∙◌, ap, arith, inl, Ok, Err, refl}
 use Rattle.zr_rules.specs.declared.rules.RulesError.TheVariants.{ReadFault}
 use Rattle.zr_top.specs.Asked.{status_of_rules}
 use Rattle.zr_top.proofs.Branches.{read_fault_kept}
@@ -26,3 +26,13 @@ returns-in-Err-clause-read_told g c = λ rose.
     let told = c.in-Err.ensures.only rose in
     let is : c.in-Err.error ≡ ReadFault = cc in
     c.status_of_rules.ensures.is ∙ ap status_of_rules (read_fault_kept _ _ _ _ _ is c.tell_refusal.ensures.tells)
+
+-- a write that failed is told as that, or behind a host that failed as that
+pub returns-in-Ok-clause-write_told : goal.returns-in-Ok-clause-write_told
+returns-in-Ok-clause-write_told g c = c.serve_by.ensures.write_told
+
+pub returns-in-Err-clause-write_told : goal.returns-in-Err-clause-write_told
+returns-in-Err-clause-write_told g c = (
+  λ rose. absurd (omega (arith, rose)),
+  λ rose. inl (c.status_of_rules.ensures.is ∙ ap status_of_rules (c.tell_refusal.ensures.only rose)),
+)

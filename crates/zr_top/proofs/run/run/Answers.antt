@@ -23,4 +23,4 @@ returns-clause-complete g c no_read no_out no_err no_host =
 pub returns-clause-prompt : goal.returns-clause-prompt
 returns-clause-prompt g c =
     let asked = c.run_asked.ensures in
-    net_reports_before_reads _ _ _ _ c.run_asked.result _ _ _ _ _ _ _ _ _ asked.report asked.read_told asked.write_told asked.out_later
+    net_reports_before_reads _ _ _ _ c.run_asked.result _ _ _ _ _ _ _ _ asked.report asked.read_told asked.write_told.0 asked.out_later
