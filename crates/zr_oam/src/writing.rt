@@ -17,6 +17,12 @@ use zr_id::zid::Zid;
 use zr_msg::decl::Decl;
 use zr_msg::msg::Msg;
 
+/// Room for most contents, so that making one takes memory once.
+const FEW_BYTES: usize = 64;
+
+/// The numbers below it are one byte on the wire.
+const GROUP: u64 = 128;
+
 /// Appends a record, or declarations: each record, each change from number 1 on, and a snapshot from number 1 on whose declarations are strictly
 /// ascending. The content is made apart first, since its length stands before it. Where memory runs out nothing is appended.
 pub fn write_oam(out: &mut Vec<u8>, msg: &Msg) -> Result<(), AllocError>
@@ -95,7 +101,7 @@ fn put_record(
     ensures ok { OnOk result (out.new.items ≡ out.old.items ++ writes_own id (writes_record weighted links.now)) }
     ensures err { OnErr result (KeepsFront out.old.items out.new.items) }
 {
-    let mut content = Vec::new(*out.allocator());
+    let mut content = Vec::with_capacity(*out.allocator(), FEW_BYTES)?;
     put_content(&mut content, links, weighted)?;
     put_own(out, id, &content)
 }
@@ -112,15 +118,36 @@ fn put_content(content: &mut Vec<u8>, links: &LinkRecord, weighted: bool) -> Res
 fn put_name(out: &mut Vec<u8>, id: &Zid, number: u64) -> Result<(), AllocError>
     ensures { OnOk result (out.new.items ≡ out.old.items ++ (writes_text id.now ++ writes number)) }
 {
-    put_bytes(out, id.bytes())?;
-    put_zint(out, number)
+    put_id(out, id)?;
+    put_number(out, number)
+}
+
+/// An identifier behind its length.
+fn put_id(out: &mut Vec<u8>, id: &Zid) -> Result<(), AllocError>
+    ensures { OnOk result (out.new.items ≡ out.old.items ++ writes_text id.now) }
+{
+    let bytes = id.bytes();
+    put_number(out, bytes.len() as u64)?;
+    out.extend_from_slice(bytes)
+}
+
+/// A number, as [`put_zint`]. Most are one byte, which goes without a copy of several.
+#[tactic(auto, using(crate::proofs::Contents::one_byte))]
+fn put_number(out: &mut Vec<u8>, value: u64) -> Result<(), AllocError>
+    ensures { OnOk result (out.new.items ≡ out.old.items ++ writes value) }
+{
+    if value < GROUP {
+        out.push(value as u8)?;
+        return Ok(());
+    }
+    put_zint(out, value)
 }
 
 /// The count of links, and the links.
 fn put_counted(out: &mut Vec<u8>, links: &[Linked], weighted: bool) -> Result<(), AllocError>
     ensures { OnOk result (out.new.items ≡ out.old.items ++ (writes (length links.now) ++ flat_map (λ link. writes_linked weighted link) links.now)) }
 {
-    put_zint(out, links.len() as u64)?;
+    put_number(out, links.len() as u64)?;
     put_links(out, links, weighted)
 }
 
@@ -136,9 +163,9 @@ fn put_links(out: &mut Vec<u8>, links: &[Linked], weighted: bool) -> Result<(), 
 fn put_link(out: &mut Vec<u8>, link: &Linked, weighted: bool) -> Result<(), AllocError>
     ensures { OnOk result (out.new.items ≡ out.old.items ++ writes_linked weighted link.now) }
 {
-    put_bytes(out, link.id.bytes())?;
+    put_id(out, &link.id)?;
     if weighted {
-        put_zint(out, u64::from(link.weight))?;
+        put_number(out, u64::from(link.weight))?;
     }
     Ok(())
 }
@@ -153,7 +180,7 @@ fn put_step(
     ensures ok { OnOk result (out.new.items ≡ out.old.items ++ writes_own 0x5A02 (writes_step source.now number added decl.now)) }
     ensures err { OnErr result (KeepsFront out.old.items out.new.items) }
 {
-    let mut content = Vec::new(*out.allocator());
+    let mut content = Vec::with_capacity(*out.allocator(), FEW_BYTES)?;
     put_head(
         &mut content,
         if added { ADDED } else { REMOVED },
