@@ -1,5 +1,4 @@
 pub mod Words
-pub mod Linked
 pub mod Stepping
 pub mod Reaching
 pub mod Served

@@ -1,10 +1,12 @@
 //! What is to be served.
 
 use zr_dial::Dial;
+use zr_id::zid::Zid;
 
-/// How a router is to run: the address at which it listens, what it dials, in order, and whether its links have logs.
+/// A router that is to run: its identifier, the address at which it listens, what it dials, in order, and whether its links have logs.
 #[derive(Drop)]
 pub struct ServePlan {
+    pub id: Zid,
     pub listen: String,
     pub dials: Vec<Dial>,
     pub log: bool,

@@ -46,24 +46,22 @@ use zr_port::{DeliverError, Entry, Port, UpError};
 use zr_port_glance::Glancing;
 use zr_port_outlet::Outlets;
 
-/// What the threads of each link are made of: the threads of the system, the router's identifier, the port at which links reach it, the rules by which it
-/// judges what clients send, and a pass of its history.
+/// What the threads of each link are made of: the threads of the system, the port at which links reach the router, the rules by which that judges what
+/// clients send, and a pass of its history.
 #[derive(Drop)]
 pub struct Serving<P: Glancing + Drop, R: Threads + Wait + Copy + Drop> {
     pub rt: R,
     pub alloc: Global,
-    pub me: Zid,
     pub port: Arc<P>,
     pub policy: Shared<Policy>,
     pub pass: Pass<Entry>,
     ghost ours: { pass_name pass ≡ P.history (arc_value port) },
-    ghost named: { me ≡ P.router (arc_value port) },
     ghost ruled: { policy ≡ P.policy (arc_value port) },
 }
 
-/// Serves a router: listens, dials each address once, in order, and then accepts until no more links come. For each link that is given the crew starts
-/// its reader, which opens the session, brings the link up at the port, and starts its writer; a link whose reader can't be started is told so by a
-/// CLOSE. Where the plan says so each link has a log, and the router an administration space: its inner client is opened before the router listens, and
+/// Serves a router, which has the plan's identifier: listens, dials each address once, in order, and then accepts until no more links come. For each link
+/// that is given the crew starts its reader, which opens the session, brings the link up at the port, and starts its writer; a link whose reader can't be
+/// started is told so by a CLOSE. Where the plan says so each link has a log, and the router an administration space: its inner client is opened before the router listens, and
 /// started once by the crew. Where that is refused `err` has first the line `admin refused`, and serving goes on without it. `out` has the line `serving ID` once the router listens, `err` a line `dial ADDRESS failed` for
 /// each dial that gave no link, and a line that says why where the host fails. Before each accept the router is asked whether it has heard that its
 /// identifier was in use before; once it has, `err` has a line that says so. Once memory has run out in the router it ends, behind the next accept. It
@@ -88,7 +86,8 @@ where
     H::Time: 'static,
     H::Log: 'static,
     P::Note: Send + 'static,
-    ensures served { IsServed result serving.old.me serving.old.policy plan.now.log plan.now.admin (OpensSpace (P.refuses_up (arc_value serving.old.port)) (P.refuses_message (arc_value serving.old.port)) (seen serving.old.pass) serving.old.me) (RefusesSpace (P.refuses_up (arc_value serving.old.port)) (P.refuses_message (arc_value serving.old.port)) (P.refuses_down (arc_value serving.old.port)) (P.answers_down (arc_value serving.old.port)) (seen serving.old.pass) serving.old.me) (λ b. Hears (P.is_legal (arc_value serving.old.port)) (P.was_used (arc_value serving.old.port)) (seen serving.new.pass) b) (string_bytes plan.now.listen) plan.now.dials.items (H.generators host.old) (H.generators host.new) (H.calls host.old) (H.calls host.new) (crew_told crew.old) (crew_told crew.new) (crew_faults crew.old) (crew_faults crew.new) (outputs (K.held out.old) (E.held err.old) (E.faults err.old)) (outputs (K.held out.new) (E.held err.new) (E.faults err.new)) }
+    requires own { plan.now.id ≡ P.router (arc_value serving.old.port) }
+    ensures served { IsServed result plan.now.id serving.old.policy plan.now.log plan.now.admin (OpensSpace (P.refuses_up (arc_value serving.old.port)) (P.refuses_message (arc_value serving.old.port)) (seen serving.old.pass) plan.now.id) (RefusesSpace (P.refuses_up (arc_value serving.old.port)) (P.refuses_message (arc_value serving.old.port)) (P.refuses_down (arc_value serving.old.port)) (P.answers_down (arc_value serving.old.port)) (seen serving.old.pass) plan.now.id) (λ b. Hears (P.is_legal (arc_value serving.old.port)) (P.was_used (arc_value serving.old.port)) (seen serving.new.pass) b) (string_bytes plan.now.listen) plan.now.dials.items (H.generators host.old) (H.generators host.new) (H.calls host.old) (H.calls host.new) (crew_told crew.old) (crew_told crew.new) (crew_faults crew.old) (crew_faults crew.new) (outputs (K.held out.old) (E.held err.old) (E.faults err.old)) (outputs (K.held out.new) (E.held err.new) (E.faults err.new)) }
     ensures done { result ≡ ServeEnd.Done → Rose (H.ends host.old) (H.ends host.new) }
     ensures host { result ≡ ServeEnd.HostFault → Rose (H.faults host.old) (H.faults host.new) }
     ensures write { result ≡ ServeEnd.WriteFault → Rose (K.faults out.old) (K.faults out.new) ⊎ Rose (E.faults err.old) (E.faults err.new) }
@@ -99,12 +98,11 @@ where
         say_last("no random words\n", err);
         return ServeEnd::HostFault;
     };
-    let id = serving.me; // a copy, as `serving` is lent
     let mut links = Links::new(plan.log, words);
     if let Err(end) = open_space(serving, plan, err, host, crew, &mut links) {
         return end;
     }
-    serve_links(serving, &id, plan, out, err, host, crew, &mut links)
+    serve_links(serving, plan, out, err, host, crew, &mut links)
 }
 
 // Opens the administration space where it is asked for, and starts its inner client. Where that is refused it is told, and serving goes on without it.
@@ -125,8 +123,9 @@ fn open_space<
 where
     H::Time: 'static,
     P::Note: Send + 'static,
+    requires own { plan.now.id ≡ P.router (arc_value serving.old.port) }
     ensures same { (serving.new.policy ≡ serving.old.policy) × (serving.new.port ≡ serving.old.port) }
-    ensures begun { OnOk result ((space : Space) × Begins plan.now.admin (OpensSpace (P.refuses_up (arc_value serving.old.port)) (P.refuses_message (arc_value serving.old.port)) (seen serving.old.pass) serving.old.me) (RefusesSpace (P.refuses_up (arc_value serving.old.port)) (P.refuses_message (arc_value serving.old.port)) (P.refuses_down (arc_value serving.old.port)) (P.answers_down (arc_value serving.old.port)) (seen serving.old.pass) serving.old.me) space (moment (H.calls host.old) (crew_told crew.old) (crew_faults crew.old) (E.held err.old) (links_of (λ w. H.Words.stream w) serving.old.me serving.old.policy links.old)) (moment (H.calls host.new) (crew_told crew.new) (crew_faults crew.new) (E.held err.new) (links_of (λ w. H.Words.stream w) serving.new.me serving.new.policy links.new))) }
+    ensures begun { OnOk result ((space : Space) × Begins plan.now.admin (OpensSpace (P.refuses_up (arc_value serving.old.port)) (P.refuses_message (arc_value serving.old.port)) (seen serving.old.pass) plan.now.id) (RefusesSpace (P.refuses_up (arc_value serving.old.port)) (P.refuses_message (arc_value serving.old.port)) (P.refuses_down (arc_value serving.old.port)) (P.answers_down (arc_value serving.old.port)) (seen serving.old.pass) plan.now.id) space (moment (H.calls host.old) (crew_told crew.old) (crew_faults crew.old) (E.held err.old) (links_of (λ w. H.Words.stream w) plan.now.id serving.old.policy links.old)) (moment (H.calls host.new) (crew_told crew.new) (crew_faults crew.new) (E.held err.new) (links_of (λ w. H.Words.stream w) plan.now.id serving.new.policy links.new))) }
     ensures ended { IfErr result (λ e. (out : Option (List ℕ)) → EndsBefore e plan.now.admin (H.calls host.old) (H.calls host.new) (crew_told crew.old) (crew_told crew.new) (crew_faults crew.old) (crew_faults crew.new) (outputs out (E.held err.old) (E.faults err.old)) (outputs out (E.held err.new) (E.faults err.new))) }
     ensures cause { (result ≡ Err ServeEnd.Done → ⊥) × (result ≡ Err ServeEnd.HostFault → ⊥) × (result ≡ Err ServeEnd.WriteFault → Rose (E.faults err.old) (E.faults err.new)) }
     ensures only { RoseOnlyBy ServeEnd.WriteFault result (E.faults err.old) (E.faults err.new) }
@@ -138,7 +137,7 @@ where
         return Ok(());
     }
     let word = links.draw();
-    match open_inner(serving, word) {
+    match open_inner(serving, plan.id, word) {
         Ok((admin, bells)) => {
             start_inner(InnerJob::new(admin, bells, host.time(), word), err, crew)
         }
@@ -157,12 +156,14 @@ enum Unopened {
 // The inner client of the router, with this random word, and the port once more.
 fn open_inner<P: Glancing + Drop, R: Threads + Wait + Copy + Drop>(
     serving: &mut Serving<P, R>,
+    id: Zid,
     word: u64,
 ) -> Result<(Admin<P>, Arc<P>), Unopened>
-    ensures same { (serving.new.policy ≡ serving.old.policy) × (serving.new.port ≡ serving.old.port) × (serving.new.me ≡ serving.old.me) }
+    requires own { id ≡ P.router (arc_value serving.old.port) }
+    ensures same { (serving.new.policy ≡ serving.old.policy) × (serving.new.port ≡ serving.old.port) }
     ensures named { IfOk result (λ r. r.0.id ≡ P.router (arc_value r.0.port)) }
-    ensures opened { OnOk result (OpensSpace (P.refuses_up (arc_value serving.old.port)) (P.refuses_message (arc_value serving.old.port)) (seen serving.old.pass) serving.old.me word) }
-    ensures refused { result ≡ Err Unopened.Refused → RefusesSpace (P.refuses_up (arc_value serving.old.port)) (P.refuses_message (arc_value serving.old.port)) (P.refuses_down (arc_value serving.old.port)) (P.answers_down (arc_value serving.old.port)) (seen serving.old.pass) serving.old.me word }
+    ensures opened { OnOk result (OpensSpace (P.refuses_up (arc_value serving.old.port)) (P.refuses_message (arc_value serving.old.port)) (seen serving.old.pass) id word) }
+    ensures refused { result ≡ Err Unopened.Refused → RefusesSpace (P.refuses_up (arc_value serving.old.port)) (P.refuses_message (arc_value serving.old.port)) (P.refuses_down (arc_value serving.old.port)) (P.answers_down (arc_value serving.old.port)) (seen serving.old.pass) id word }
 {
     let Ok(port) = Arc::try_clone(&serving.port) else {
         return Err(Unopened::NoMemory);
@@ -171,7 +172,7 @@ fn open_inner<P: Glancing + Drop, R: Threads + Wait + Copy + Drop>(
         return Err(Unopened::NoMemory);
     };
     let pass = serving.port.split(&mut serving.pass);
-    match Admin::open(serving.alloc, port, pass, serving.me, word) {
+    match Admin::open(serving.alloc, port, pass, id, word) {
         Ok(admin) => Ok((admin, bells)),
         Err(refused) => {
             let (e, pass) = refused;
@@ -222,7 +223,6 @@ fn serve_links<
     R: Threads + Wait + Copy + Send + Sync + Drop + 'static,
 >(
     serving: &mut Serving<P, R>,
-    id: &Zid,
     plan: &ServePlan,
     out: &mut K,
     err: &mut E,
@@ -236,7 +236,8 @@ where
     H::Time: 'static,
     H::Log: 'static,
     P::Note: Send + 'static,
-    ensures served { IsServedFrom result (λ b. Hears (P.is_legal (arc_value serving.old.port)) (P.was_used (arc_value serving.old.port)) (seen serving.new.pass) b) id.now (string_bytes plan.now.listen) plan.now.dials.items (moment (H.calls host.old) (crew_told crew.old) (crew_faults crew.old) (E.held err.old) (links_of (λ w. H.Words.stream w) serving.old.me serving.old.policy links.old)) (H.calls host.new) (crew_told crew.new) (crew_faults crew.new) (outputs (K.held out.old) (E.held err.old) (E.faults err.old)) (outputs (K.held out.new) (E.held err.new) (E.faults err.new)) }
+    requires own { plan.now.id ≡ P.router (arc_value serving.old.port) }
+    ensures served { IsServedFrom result (λ b. Hears (P.is_legal (arc_value serving.old.port)) (P.was_used (arc_value serving.old.port)) (seen serving.new.pass) b) plan.now.id (string_bytes plan.now.listen) plan.now.dials.items (moment (H.calls host.old) (crew_told crew.old) (crew_faults crew.old) (E.held err.old) (links_of (λ w. H.Words.stream w) plan.now.id serving.old.policy links.old)) (H.calls host.new) (crew_told crew.new) (crew_faults crew.new) (outputs (K.held out.old) (E.held err.old) (E.faults err.old)) (outputs (K.held out.new) (E.held err.new) (E.faults err.new)) }
     ensures done { result ≡ ServeEnd.Done → Rose (H.ends host.old) (H.ends host.new) }
     ensures host { result ≡ ServeEnd.HostFault → Rose (H.faults host.old) (H.faults host.new) }
     ensures write { result ≡ ServeEnd.WriteFault → Rose (K.faults out.old) (K.faults out.new) ⊎ Rose (E.faults err.old) (E.faults err.new) }
@@ -248,13 +249,21 @@ where
         say_not_listening(plan.listen.as_str(), err);
         return ServeEnd::HostFault;
     }
-    if let Err(unsaid) = say_serving(serving.alloc, id, out) {
+    if let Err(unsaid) = say_serving(serving.alloc, &plan.id, out) {
         return unsaid.end();
     }
-    if let Err(end) = dial_all(serving, plan.dials.as_slice(), err, host, crew, links) {
+    if let Err(end) = dial_all(
+        serving,
+        &plan.id,
+        plan.dials.as_slice(),
+        err,
+        host,
+        crew,
+        links,
+    ) {
         return end;
     }
-    let end = accept_all(serving, id, err, host, crew, links);
+    let end = accept_all(serving, &plan.id, err, host, crew, links);
     tell_end(end, err);
     end
 }
@@ -281,6 +290,7 @@ fn dial_all<
     R: Threads + Wait + Copy + Send + Sync + Drop + 'static,
 >(
     serving: &mut Serving<P, R>,
+    id: &Zid,
     targets: &[Dial],
     err: &mut E,
     host: &mut H,
@@ -293,8 +303,9 @@ where
     H::Time: 'static,
     H::Log: 'static,
     P::Note: Send + 'static,
-    ensures dialled { OnOk result ((gave : List Bool) × (length gave ≡ length targets.now) × Serves (dials targets.now gave) (moment (H.calls host.old) (crew_told crew.old) (crew_faults crew.old) (E.held err.old) (links_of (λ w. H.Words.stream w) serving.old.me serving.old.policy links.old)) (moment (H.calls host.new) (crew_told crew.new) (crew_faults crew.new) (E.held err.new) (links_of (λ w. H.Words.stream w) serving.new.me serving.new.policy links.new))) }
-    ensures stopped { OnErr result ((gave : List Bool) × BreaksOff (dials targets.now gave) (moment (H.calls host.old) (crew_told crew.old) (crew_faults crew.old) (E.held err.old) (links_of (λ w. H.Words.stream w) serving.old.me serving.old.policy links.old)) (moment (H.calls host.new) (crew_told crew.new) (crew_faults crew.new) (E.held err.new) (links_of (λ w. H.Words.stream w) serving.new.me serving.new.policy links.new))) }
+    requires own { id.now ≡ P.router (arc_value serving.old.port) }
+    ensures dialled { OnOk result ((gave : List Bool) × (length gave ≡ length targets.now) × Serves (dials targets.now gave) (moment (H.calls host.old) (crew_told crew.old) (crew_faults crew.old) (E.held err.old) (links_of (λ w. H.Words.stream w) id.now serving.old.policy links.old)) (moment (H.calls host.new) (crew_told crew.new) (crew_faults crew.new) (E.held err.new) (links_of (λ w. H.Words.stream w) id.now serving.new.policy links.new))) }
+    ensures stopped { OnErr result ((gave : List Bool) × BreaksOff (dials targets.now gave) (moment (H.calls host.old) (crew_told crew.old) (crew_faults crew.old) (E.held err.old) (links_of (λ w. H.Words.stream w) id.now serving.old.policy links.old)) (moment (H.calls host.new) (crew_told crew.new) (crew_faults crew.new) (E.held err.new) (links_of (λ w. H.Words.stream w) id.now serving.new.policy links.new))) }
     ensures cause { (result ≡ Err ServeEnd.Done → ⊥) × (result ≡ Err ServeEnd.HostFault → ⊥) × (result ≡ Err ServeEnd.WriteFault → Rose (E.faults err.old) (E.faults err.new)) }
     ensures only { RoseOnlyBy ServeEnd.WriteFault result (E.faults err.old) (E.faults err.new) }
     ensures later { (E.faults err.old ≤ E.faults err.new) × (H.faults host.old ≤ H.faults host.new) × (H.ends host.old ≤ H.ends host.new) }
@@ -302,7 +313,7 @@ where
     ensures undrawn { H.generators host.new ≡ H.generators host.old }
 {
     for target in targets {
-        if let Err(end) = dial(serving, target, err, host, crew, links) {
+        if let Err(end) = dial(serving, id, target, err, host, crew, links) {
             return Err(end);
         }
     }
@@ -318,6 +329,7 @@ fn dial<
     R: Threads + Wait + Copy + Send + Sync + Drop + 'static,
 >(
     serving: &mut Serving<P, R>,
+    id: &Zid,
     target: &Dial,
     err: &mut E,
     host: &mut H,
@@ -330,8 +342,9 @@ where
     H::Time: 'static,
     H::Log: 'static,
     P::Note: Send + 'static,
-    ensures dialled { OnOk result ((is_link : Bool) × Serves (dial_call target.now is_link ∷ []) (moment (H.calls host.old) (crew_told crew.old) (crew_faults crew.old) (E.held err.old) (links_of (λ w. H.Words.stream w) serving.old.me serving.old.policy links.old)) (moment (H.calls host.new) (crew_told crew.new) (crew_faults crew.new) (E.held err.new) (links_of (λ w. H.Words.stream w) serving.new.me serving.new.policy links.new))) }
-    ensures stopped { OnErr result ((is_link : Bool) × BreaksOff (dial_call target.now is_link ∷ []) (moment (H.calls host.old) (crew_told crew.old) (crew_faults crew.old) (E.held err.old) (links_of (λ w. H.Words.stream w) serving.old.me serving.old.policy links.old)) (moment (H.calls host.new) (crew_told crew.new) (crew_faults crew.new) (E.held err.new) (links_of (λ w. H.Words.stream w) serving.new.me serving.new.policy links.new))) }
+    requires own { id.now ≡ P.router (arc_value serving.old.port) }
+    ensures dialled { OnOk result ((is_link : Bool) × Serves (dial_call target.now is_link ∷ []) (moment (H.calls host.old) (crew_told crew.old) (crew_faults crew.old) (E.held err.old) (links_of (λ w. H.Words.stream w) id.now serving.old.policy links.old)) (moment (H.calls host.new) (crew_told crew.new) (crew_faults crew.new) (E.held err.new) (links_of (λ w. H.Words.stream w) id.now serving.new.policy links.new))) }
+    ensures stopped { OnErr result ((is_link : Bool) × BreaksOff (dial_call target.now is_link ∷ []) (moment (H.calls host.old) (crew_told crew.old) (crew_faults crew.old) (E.held err.old) (links_of (λ w. H.Words.stream w) id.now serving.old.policy links.old)) (moment (H.calls host.new) (crew_told crew.new) (crew_faults crew.new) (E.held err.new) (links_of (λ w. H.Words.stream w) id.now serving.new.policy links.new))) }
     ensures cause { (result ≡ Err ServeEnd.Done → ⊥) × (result ≡ Err ServeEnd.HostFault → ⊥) × (result ≡ Err ServeEnd.WriteFault → Rose (E.faults err.old) (E.faults err.new)) }
     ensures only { RoseOnlyBy ServeEnd.WriteFault result (E.faults err.old) (E.faults err.new) }
     ensures later { (E.faults err.old ≤ E.faults err.new) × (H.faults host.old ≤ H.faults host.new) × (H.ends host.old ≤ H.ends host.new) }
@@ -344,6 +357,7 @@ where
             let weight = target.weight();
             start(
                 serving,
+                id,
                 host,
                 crew,
                 links,
@@ -383,7 +397,8 @@ where
     H::Time: 'static,
     H::Log: 'static,
     P::Note: Send + 'static,
-    ensures ended { (held : Option (List ℕ)) → Accepts result (moment (H.calls host.old) (crew_told crew.old) (crew_faults crew.old) held (links_of (λ w. H.Words.stream w) serving.old.me serving.old.policy links.old)) (moment (H.calls host.new) (crew_told crew.new) (crew_faults crew.new) held (links_of (λ w. H.Words.stream w) serving.new.me serving.new.policy links.new)) }
+    requires own { id.now ≡ P.router (arc_value serving.old.port) }
+    ensures ended { (held : Option (List ℕ)) → Accepts result (moment (H.calls host.old) (crew_told crew.old) (crew_faults crew.old) held (links_of (λ w. H.Words.stream w) id.now serving.old.policy links.old)) (moment (H.calls host.new) (crew_told crew.new) (crew_faults crew.new) held (links_of (λ w. H.Words.stream w) id.now serving.new.policy links.new)) }
     ensures told { Uses result (λ b. Hears (P.is_legal (arc_value serving.old.port)) (P.was_used (arc_value serving.old.port)) (seen serving.new.pass) b) id.now (E.held err.old) (E.held err.new) }
     ensures cause { (result ≡ ServeEnd.Done → Rose (H.ends host.old) (H.ends host.new)) × (result ≡ ServeEnd.HostFault → Rose (H.faults host.old) (H.faults host.new)) × (result ≡ ServeEnd.WriteFault → Rose (E.faults err.old) (E.faults err.new)) }
     ensures only { E.faults err.old < E.faults err.new → result ≡ ServeEnd.WriteFault }
@@ -397,7 +412,7 @@ where
             Ok(told) => is_told = told,
             Err(unsaid) => return unsaid.end(),
         }
-        if let Err(end) = accept(serving, host, crew, links) {
+        if let Err(end) = accept(serving, id, host, crew, links) {
             return end;
         }
         if serving.port.is_spent() {
@@ -416,7 +431,7 @@ fn tell_used<
 >(serving: &mut Serving<P, R>, id: &Zid, was_told: bool, err: &mut E) -> Result<bool, Unsaid>
 where
     P::Note: Send + 'static,
-    ensures same { (serving.new.port ≡ serving.old.port) × (serving.new.policy ≡ serving.old.policy) × (serving.new.me ≡ serving.old.me) }
+    ensures same { (serving.new.port ≡ serving.old.port) × (serving.new.policy ≡ serving.old.policy) }
     ensures told { IfOk result (λ told. was_told ≡ false → Hears (P.is_legal (arc_value serving.old.port)) (P.was_used (arc_value serving.old.port)) (seen serving.new.pass) told × Appends (told_text id.now told) (E.held err.old) (E.held err.new)) }
     ensures skips { was_told ≡ true → (result ≡ Ok true) × (seen serving.new.pass ≡ seen serving.old.pass) × (E.held err.new ≡ E.held err.old) }
     ensures part { OnErr result (Hears (P.is_legal (arc_value serving.old.port)) (P.was_used (arc_value serving.old.port)) (seen serving.new.pass) true × AppendsPrefix (used_text id.now) (E.held err.old) (E.held err.new)) }
@@ -444,6 +459,7 @@ fn accept<
     R: Threads + Wait + Copy + Send + Sync + Drop + 'static,
 >(
     serving: &mut Serving<P, R>,
+    id: &Zid,
     host: &mut H,
     crew: &mut Crew<R, ServeJob>,
     links: &mut Links<H::Words>,
@@ -454,8 +470,9 @@ where
     H::Time: 'static,
     H::Log: 'static,
     P::Note: Send + 'static,
-    ensures going { (held : Option (List ℕ)) → OnOk result ((a : Answer) × IsGoing a × Serves (accepts (a ∷ [])) (moment (H.calls host.old) (crew_told crew.old) (crew_faults crew.old) held (links_of (λ w. H.Words.stream w) serving.old.me serving.old.policy links.old)) (moment (H.calls host.new) (crew_told crew.new) (crew_faults crew.new) held (links_of (λ w. H.Words.stream w) serving.new.me serving.new.policy links.new))) }
-    ensures stops { (held : Option (List ℕ)) → IfErr result (λ e. Stops e (moment (H.calls host.old) (crew_told crew.old) (crew_faults crew.old) held (links_of (λ w. H.Words.stream w) serving.old.me serving.old.policy links.old)) (moment (H.calls host.new) (crew_told crew.new) (crew_faults crew.new) held (links_of (λ w. H.Words.stream w) serving.new.me serving.new.policy links.new))) }
+    requires own { id.now ≡ P.router (arc_value serving.old.port) }
+    ensures going { (held : Option (List ℕ)) → OnOk result ((a : Answer) × IsGoing a × Serves (accepts (a ∷ [])) (moment (H.calls host.old) (crew_told crew.old) (crew_faults crew.old) held (links_of (λ w. H.Words.stream w) id.now serving.old.policy links.old)) (moment (H.calls host.new) (crew_told crew.new) (crew_faults crew.new) held (links_of (λ w. H.Words.stream w) id.now serving.new.policy links.new))) }
+    ensures stops { (held : Option (List ℕ)) → IfErr result (λ e. Stops e (moment (H.calls host.old) (crew_told crew.old) (crew_faults crew.old) held (links_of (λ w. H.Words.stream w) id.now serving.old.policy links.old)) (moment (H.calls host.new) (crew_told crew.new) (crew_faults crew.new) held (links_of (λ w. H.Words.stream w) id.now serving.new.policy links.new))) }
     ensures done { result ≡ Err ServeEnd.Done → Rose (H.ends host.old) (H.ends host.new) }
     ensures host { result ≡ Err ServeEnd.HostFault → Rose (H.faults host.old) (H.faults host.new) }
     ensures later { (H.faults host.old ≤ H.faults host.new) × (H.ends host.old ≤ H.ends host.new) }
@@ -467,6 +484,7 @@ where
             let weight = Weight::one();
             start(
                 serving,
+                id,
                 host,
                 crew,
                 links,
@@ -491,6 +509,7 @@ fn start<
     R: Threads + Wait + Copy + Send + Sync + Drop + 'static,
 >(
     serving: &mut Serving<P, R>,
+    id: &Zid,
     host: &mut H,
     crew: &mut Crew<R, ServeJob>,
     links: &mut Links<H::Words>,
@@ -505,14 +524,15 @@ where
     H::Time: 'static,
     H::Log: 'static,
     P::Note: Send + 'static,
-    ensures started { Starts (next_job (links_of (λ w. H.Words.stream w) serving.old.me serving.old.policy links.old) (record { side = side; weight = weight }) ∷ []) (crew_told crew.old) (crew_told crew.new) (crew_faults crew.old) (crew_faults crew.new) }
-    ensures links { links_of (λ w. H.Words.stream w) serving.new.me serving.new.policy links.new ≡ with_next (links_of (λ w. H.Words.stream w) serving.old.me serving.old.policy links.old) }
+    requires own { id.now ≡ P.router (arc_value serving.old.port) }
+    ensures started { Starts (next_job (links_of (λ w. H.Words.stream w) id.now serving.old.policy links.old) (record { side = side; weight = weight }) ∷ []) (crew_told crew.old) (crew_told crew.new) (crew_faults crew.old) (crew_faults crew.new) }
+    ensures links { links_of (λ w. H.Words.stream w) id.now serving.new.policy links.new ≡ with_next (links_of (λ w. H.Words.stream w) id.now serving.old.policy links.old) }
     ensures told { H.calls host.new ≡ H.calls host.old }
     ensures counts { (H.faults host.new ≡ H.faults host.old) × (H.ends host.new ≡ H.ends host.old) }
     ensures same { (serving.new.port ≡ serving.old.port) × (seen serving.new.pass ≡ seen serving.old.pass) }
     ensures undrawn { H.generators host.new ≡ H.generators host.old }
 {
-    let begins = links.next(serving.me, side, weight);
+    let begins = links.next(*id, side, weight);
     // what may fail comes first, while there is little to be let go
     let Ok((port, policy, inner)) = shared(serving) else {
         turn_away(&mut sink);

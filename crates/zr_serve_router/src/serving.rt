@@ -15,7 +15,6 @@ use std::sync::{Arc, Wait};
 use std::thread::Threads;
 use zr_access::Policy;
 use zr_hist::{History, Kept, Pass};
-use zr_id::zid::Zid;
 use zr_link_job::ServeJob;
 use zr_msg::shared::Shared;
 use zr_outside::host::Host;
@@ -26,7 +25,7 @@ use zr_port::{Entry, Naming};
 use zr_router::Router;
 use zr_serve::{ServeEnd, ServePlan, Serving, serve};
 
-/// Makes the router of this identifier, which judges what clients send by these rules, and serves it as planned.
+/// Makes the router of a plan, which judges what clients send by these rules, and serves it.
 #[tactic(auto, using(zr_serve::proofs::Served::not_begun, zr_serve::proofs::Served::none_rose))]
 pub fn serve_router<
     K: Sink,
@@ -36,7 +35,6 @@ pub fn serve_router<
 >(
     rt: R,
     alloc: Global,
-    id: Zid,
     plan: &ServePlan,
     policy: Policy,
     out: &mut K,
@@ -49,7 +47,7 @@ where
     H::Out: BriefSink + 'static,
     H::Time: 'static,
     H::Log: 'static,
-    ensures served { IsServed result id policy plan.now.log plan.now.admin (Opened policy id) (Refused policy id) (Heard policy id) (string_bytes plan.now.listen) plan.now.dials.items (H.generators host.old) (H.generators host.new) (H.calls host.old) (H.calls host.new) (crew_told crew.old) (crew_told crew.new) (crew_faults crew.old) (crew_faults crew.new) (outputs (K.held out.old) (E.held err.old) (E.faults err.old)) (outputs (K.held out.new) (E.held err.new) (E.faults err.new)) }
+    ensures served { IsServed result plan.now.id policy plan.now.log plan.now.admin (Opened policy plan.now.id) (Refused policy plan.now.id) (Heard policy plan.now.id) (string_bytes plan.now.listen) plan.now.dials.items (H.generators host.old) (H.generators host.new) (H.calls host.old) (H.calls host.new) (crew_told crew.old) (crew_told crew.new) (crew_faults crew.old) (crew_faults crew.new) (outputs (K.held out.old) (E.held err.old) (E.faults err.old)) (outputs (K.held out.new) (E.held err.new) (E.faults err.new)) }
     ensures done { result ≡ ServeEnd.Done → Rose (H.ends host.old) (H.ends host.new) }
     ensures host { result ≡ ServeEnd.HostFault → Rose (H.faults host.old) (H.faults host.new) }
     ensures write { result ≡ ServeEnd.WriteFault → Rose (K.faults out.old) (K.faults out.new) ⊎ Rose (E.faults err.old) (E.faults err.new) }
@@ -62,14 +60,14 @@ where
     match History::new(alloc) {
         Ok((history, kept, pass)) => {
             serve_named::<K, E, H, R, Brand>(
-                rt, alloc, id, plan, policy, out, err, host, crew, history, kept, pass,
+                rt, alloc, plan, policy, out, err, host, crew, history, kept, pass,
             )
         }
         Err(_) => ServeEnd::NoMemory,
     }
 }
 
-// The same under a name, which is that of the history, of the identifier and of the rules.
+// The same under a name, which is that of the history, of the plan's identifier and of the rules.
 #[tactic(auto, using(zr_serve::proofs::Served::none_rose))]
 fn serve_named<
     K: Sink,
@@ -80,7 +78,6 @@ fn serve_named<
 >(
     rt: R,
     alloc: Global,
-    id: Zid,
     plan: &ServePlan,
     policy: Shared<Policy>,
     out: &mut K,
@@ -99,9 +96,9 @@ where
     requires history { name history ≡ B.history }
     requires kept { (kept_name kept ≡ B.history) × (list_of kept ≡ []) }
     requires pass { (pass_name pass ≡ B.history) × (seen pass ≡ []) }
-    requires own { id ≡ B.me }
+    requires own { plan.now.id ≡ B.me }
     requires ruled { policy ≡ B.policy }
-    ensures served { IsServed result id policy plan.now.log plan.now.admin (Opened policy id) (Refused policy id) (Heard policy id) (string_bytes plan.now.listen) plan.now.dials.items (H.generators host.old) (H.generators host.new) (H.calls host.old) (H.calls host.new) (crew_told crew.old) (crew_told crew.new) (crew_faults crew.old) (crew_faults crew.new) (outputs (K.held out.old) (E.held err.old) (E.faults err.old)) (outputs (K.held out.new) (E.held err.new) (E.faults err.new)) }
+    ensures served { IsServed result plan.now.id policy plan.now.log plan.now.admin (Opened policy plan.now.id) (Refused policy plan.now.id) (Heard policy plan.now.id) (string_bytes plan.now.listen) plan.now.dials.items (H.generators host.old) (H.generators host.new) (H.calls host.old) (H.calls host.new) (crew_told crew.old) (crew_told crew.new) (crew_faults crew.old) (crew_faults crew.new) (outputs (K.held out.old) (E.held err.old) (E.faults err.old)) (outputs (K.held out.new) (E.held err.new) (E.faults err.new)) }
     ensures done { result ≡ ServeEnd.Done → Rose (H.ends host.old) (H.ends host.new) }
     ensures host { result ≡ ServeEnd.HostFault → Rose (H.faults host.old) (H.faults host.new) }
     ensures write { result ≡ ServeEnd.WriteFault → Rose (K.faults out.old) (K.faults out.new) ⊎ Rose (E.faults err.old) (E.faults err.new) }
@@ -111,7 +108,7 @@ where
     let Ok(judged) = policy.copy() else {
         return ServeEnd::NoMemory;
     };
-    let Ok(router) = Router::<B, R, H::Out>::new(rt, alloc, id, judged, history, kept) else {
+    let Ok(router) = Router::<B, R, H::Out>::new(rt, alloc, plan.id, judged, history, kept) else {
         return ServeEnd::NoMemory;
     };
     let Ok(port) = Arc::new(alloc, router) else {
@@ -120,7 +117,6 @@ where
     let mut serving = Serving {
         rt,
         alloc,
-        me: id,
         port,
         policy,
         pass,

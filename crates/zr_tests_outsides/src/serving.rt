@@ -9,7 +9,6 @@ use std::alloc::{AllocError, Global};
 use std::sync::Wait;
 use std::thread::Threads;
 use zr_access::Policy;
-use zr_id::zid::Zid;
 use zr_link_job::ServeJob;
 use zr_outside_crew::Crew;
 use zr_outside_mem::mem_clock::MemClock;
@@ -71,6 +70,7 @@ pub fn rows() -> &'static [Serves] {
 fn plan(alloc: Global) -> Result<ServePlan, AllocError> {
     let listen = String::from_str(alloc, "here")?;
     Ok(ServePlan {
+        id: identifier(OWN)?,
         listen,
         dials: Vec::new(alloc),
         log: false,
@@ -112,7 +112,6 @@ fn ends_so<R: Threads + Wait + Copy + Send + Sync + Drop + 'static>(
     rt: R,
     alloc: Global,
     row: &Serves,
-    id: Zid,
     plan: &ServePlan,
     host: &mut SeenHost<R>,
     crew: &mut Crew<R, ServeJob>,
@@ -120,7 +119,7 @@ fn ends_so<R: Threads + Wait + Copy + Send + Sync + Drop + 'static>(
     let mut out = MemSink::new(alloc, Vec::new(alloc));
     let mut err = MemSink::new(alloc, Vec::new(alloc));
     let policy = Policy::open(alloc);
-    let end = serve_router(rt, alloc, id, plan, policy, &mut out, &mut err, host, crew);
+    let end = serve_router(rt, alloc, plan, policy, &mut out, &mut err, host, crew);
     end == row.end && out.bytes() == "serving 01\n".as_bytes() && err.bytes() == row.told.as_bytes()
 }
 
@@ -130,13 +129,12 @@ fn is_so<R: Threads + Wait + Copy + Send + Sync + Drop + 'static>(
     alloc: Global,
     row: &Serves,
 ) -> Result<bool, AllocError> {
-    let id = identifier(OWN)?;
     let plan = plan(alloc)?;
     let first = Seen::new(alloc, &[])?;
     let second = Seen::new(alloc, &[])?;
     let mut host = host(rt, alloc, row, &first, &second)?;
     let mut crew = Crew::telling(rt, alloc, row.starts.to_vec(alloc)?)?;
-    let ends = ends_so(rt, alloc, row, id, &plan, &mut host, &mut crew);
+    let ends = ends_so(rt, alloc, row, &plan, &mut host, &mut crew);
     crew.wait();
     let is_first = first.is_written(&rt, alloc, row.first)?;
     Ok(ends && is_first && second.is_written(&rt, alloc, row.second)?)

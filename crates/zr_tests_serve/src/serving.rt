@@ -121,26 +121,19 @@ fn dials_of(alloc: Global, words: &[&str]) -> Result<Vec<Dial>, AllocError> {
     Ok(dials)
 }
 
-// A router that is to be served, and how.
-#[derive(Drop)]
-struct Served {
-    id: Zid,
-    plan: ServePlan,
-}
-
-fn asked(alloc: Global, dials: &[&str], log: bool) -> Result<Served, AllocError> {
+fn plan(alloc: Global, dials: &[&str], log: bool) -> Result<ServePlan, AllocError> {
     let Ok(id) = Zid::from_bytes(&[1]) else {
         return Err(AllocError);
     };
     let listen = String::from_str(alloc, "here")?;
     let dials = dials_of(alloc, dials)?;
-    let plan = ServePlan {
+    Ok(ServePlan {
+        id,
         listen,
         dials,
         log,
         admin: false,
-    };
-    Ok(Served { id, plan })
+    })
 }
 
 // Whether a job has that letter, and that weight under rules that allow everything.
@@ -183,7 +176,7 @@ fn are_jobs(jobs: &[ServeJob], text: &[u8]) -> bool {
 fn ended<H: Host, R: Threads + Wait + Copy + Send + Sync + Drop + 'static>(
     rt: R,
     alloc: Global,
-    served: &Served,
+    plan: &ServePlan,
     out: &mut MemSink,
     err: &mut MemSink,
     host: &mut H,
@@ -195,25 +188,14 @@ where
     H::Time: 'static,
     H::Log: 'static,
 {
-    let policy = Policy::open(alloc);
-    serve_router(
-        rt,
-        alloc,
-        served.id,
-        &served.plan,
-        policy,
-        out,
-        err,
-        host,
-        crew,
-    )
+    serve_router(rt, alloc, plan, Policy::open(alloc), out, err, host, crew)
 }
 
 // Whether serving comes to what the row says.
 fn serves<R: Threads + Wait + Copy + Send + Sync + Drop + 'static>(
     rt: R,
     alloc: Global,
-    served: &Served,
+    plan: &ServePlan,
     err: &mut MemSink,
     host: &mut TestHost,
     crew: &mut Crew<R, ServeJob>,
@@ -221,7 +203,7 @@ fn serves<R: Threads + Wait + Copy + Send + Sync + Drop + 'static>(
 ) -> bool {
     let (_, _, _, _, _, end, out_text, err_text, jobs) = *row;
     let mut out = sink(alloc);
-    let told = ended(rt, alloc, served, &mut out, err, host, crew);
+    let told = ended(rt, alloc, plan, &mut out, err, host, crew);
     crew.wait();
     told == end
         && out.bytes() == out_text.as_bytes()
@@ -235,11 +217,11 @@ fn is_so<R: Threads + Wait + Copy + Send + Sync + Drop + 'static>(
     alloc: Global,
     row: &Row,
 ) -> Result<bool, AllocError> {
-    let served = asked(alloc, row.0, row.1)?;
+    let plan = plan(alloc, row.0, row.1)?;
     let mut host = host_of(alloc, row.2, row.3)?;
     let mut err = failing_sink(alloc, row.4)?;
     let mut crew = Crew::telling(rt, alloc, Vec::new(alloc))?;
-    Ok(serves(rt, alloc, &served, &mut err, &mut host, &mut crew, row))
+    Ok(serves(rt, alloc, &plan, &mut err, &mut host, &mut crew, row))
 }
 
 // The number of the first row that isn't so; that of all where there is none.
@@ -287,13 +269,13 @@ fn host_with<R: Wait + Drop>(
 fn serve_links<R: Threads + Wait + Copy + Send + Sync + Drop + 'static>(
     rt: R,
     alloc: Global,
-    served: &Served,
+    plan: &ServePlan,
     host: &mut SharedHost<R>,
     crew: &mut Crew<R, ServeJob>,
 ) {
     let mut out = sink(alloc);
     let mut err = sink(alloc);
-    let _ = ended(rt, alloc, served, &mut out, &mut err, host, crew);
+    let _ = ended(rt, alloc, plan, &mut out, &mut err, host, crew);
     crew.wait();
 }
 
@@ -303,11 +285,11 @@ fn is_written<R: Threads + Wait + Copy + Send + Sync + Drop + 'static>(
     alloc: Global,
     row: &Opening,
 ) -> Result<bool, AllocError> {
-    let served = asked(alloc, &["there"], false)?;
+    let plan = plan(alloc, &["there"], false)?;
     let bytes = no_bytes(alloc)?;
     let mut host = host_with(rt, alloc, row, &bytes)?;
     let mut crew = Crew::new(rt, alloc)?;
-    serve_links(rt, alloc, &served, &mut host, &mut crew);
+    serve_links(rt, alloc, &plan, &mut host, &mut crew);
     Ok(hold(&rt, &bytes, row.2))
 }
 

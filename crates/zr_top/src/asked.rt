@@ -207,14 +207,14 @@ where
     ensures none { (result ≡ Status.Words → ⊥) × (result ≡ Status.Refused → ⊥) × (result ≡ Status.ReadFault → ⊥) }
     ensures later { (K.faults out.old ≤ K.faults out.new) × (E.faults err.old ≤ E.faults err.new) }
 {
-    let id = words.id;
     let plan = ServePlan {
+        id: words.id,
         listen: words.listen,
         dials: words.dials,
         log: words.log,
         admin: words.admin,
     };
-    status_of(serve_router(rt, alloc, id, &plan, policy, out, err, host, crew))
+    status_of(serve_router(rt, alloc, &plan, policy, out, err, host, crew))
 }
 
 fn status_of(end: ServeEnd) -> Status

@@ -5,9 +5,9 @@ use Rattle.std.specs.Arc.{arc_value}
 use Rattle.zr_hist.specs.Words.{seen}
 use Rattle.zr_outside.proofs.Counting.{rose_not, rose_since}
 use Rattle.zr_outside.proofs.Appending.{appends_none}
+use Rattle.zr_serve.specs.Links.{links_of}
 use Rattle.zr_serve.specs.Unsaid.{end_of_unsaid}
 use Rattle.zr_serve.proofs.Former.{asked_on, cut_on, tells_still, stops_uses, stops_unfailed, still_heard, unsaid_by, unsaid_undone, unsaid_unfailed, unsaid_uses}
-use Rattle.zr_serve.proofs.Linked.{links_same}
 use Rattle.zr_serve.proofs.Reaching.{goes_more, goes_none, goes_on_to, goes_same, goes_spent, goes_unsaid}
 use Rattle.zr_serve.proofs.service.accept_all.Goals as goal
 
@@ -17,7 +17,7 @@ loop-init g c = (λ held. goes_none _ _ _ _ held, le_refl _, le_refl _, refl, re
 -- ---- the line could not be told
 
 pub returns-in-Err-clause-ended : goal.returns-in-Err-clause-ended
-returns-in-Err-clause-ended g c = λ held. rw c.end.ensures (goes_unsaid _ _ c.in-Err.unsaid (goes_same _ _ _ _ held _ _ (links_same (λ w. g.H.Words.Rng.stream w) _ _ _ _ c.loop.links c.tell_used.ensures.same.2 c.tell_used.ensures.same.1) (c.loop.invariant.0 held)))
+returns-in-Err-clause-ended g c = λ held. rw c.end.ensures (goes_unsaid _ _ c.in-Err.unsaid (goes_same _ _ _ _ held _ _ (ap (λ p. links_of (λ w. g.H.Words.Rng.stream w) c.args.id.now p c.loop.links) c.tell_used.ensures.same.1) (c.loop.invariant.0 held)))
 
 pub returns-in-Err-clause-told : goal.returns-in-Err-clause-told
 returns-in-Err-clause-told g c =
@@ -46,7 +46,7 @@ returns-in-Err-clause-undrawn g c = c.loop.invariant.3
 -- ---- no more links come
 
 pub returns-in-Err-accept-clause-ended : goal.returns-in-Err-accept-clause-ended
-returns-in-Err-accept-clause-ended g c = λ held. goes_on_to _ _ _ c.in-Err-accept.end (goes_same _ _ _ _ held _ _ (links_same (λ w. g.H.Words.Rng.stream w) _ _ _ _ c.loop.links c.tell_used.ensures.same.2 c.tell_used.ensures.same.1) (c.loop.invariant.0 held)) (c.in-Err-accept.ensures.stops held)
+returns-in-Err-accept-clause-ended g c = λ held. goes_on_to _ _ _ c.in-Err-accept.end (goes_same _ _ _ _ held _ _ (ap (λ p. links_of (λ w. g.H.Words.Rng.stream w) c.args.id.now p c.loop.links) c.tell_used.ensures.same.1) (c.loop.invariant.0 held)) (c.in-Err-accept.ensures.stops held)
 
 pub returns-in-Err-accept-clause-told : goal.returns-in-Err-accept-clause-told
 returns-in-Err-accept-clause-told g c =
@@ -78,7 +78,7 @@ pub returns-then-is_spent-clause-undrawn : goal.returns-then-is_spent-clause-und
 returns-then-is_spent-clause-undrawn g c = c.in_default.ensures.undrawn ∙ c.loop.invariant.3
 
 pub returns-then-is_spent-clause-ended : goal.returns-then-is_spent-clause-ended
-returns-then-is_spent-clause-ended g c = λ held. goes_spent _ _ _ (goes_same _ _ _ _ held _ _ (links_same (λ w. g.H.Words.Rng.stream w) _ _ _ _ c.loop.links c.tell_used.ensures.same.2 c.tell_used.ensures.same.1) (c.loop.invariant.0 held)) (c.in_default.ensures.going held)
+returns-then-is_spent-clause-ended g c = λ held. goes_spent _ _ _ (goes_same _ _ _ _ held _ _ (ap (λ p. links_of (λ w. g.H.Words.Rng.stream w) c.args.id.now p c.loop.links) c.tell_used.ensures.same.1) (c.loop.invariant.0 held)) (c.in_default.ensures.going held)
 
 pub returns-then-is_spent-clause-told : goal.returns-then-is_spent-clause-told
 returns-then-is_spent-clause-told g c =
@@ -100,7 +100,7 @@ loop-preserved g c =
     let inv = c.loop.invariant in
     let asked = asked_on (λ p h. g.P.Port.is_legal (arc_value p) h) (λ p h. g.P.Glancing.was_used (arc_value p) h) c.args.id.now c.args.serving.now.port c.loop.serving.port inv.4 c.loop.is_told (seen c.loop.serving.pass) (seen c.tell_used.new.serving.pass)
     (g.E.Sink.held c.args.err.now) (g.E.Sink.held c.loop.err) (g.E.Sink.held c.tell_used.new.err) inv.5 c.in-Ok.told _ refl inv.6 c.in-Ok.ensures.told c.in-Ok.ensures.skips in (
-      λ held. goes_more _ _ _ (goes_same _ _ _ _ held _ _ (links_same (λ w. g.H.Words.Rng.stream w) _ _ _ _ c.loop.links c.tell_used.ensures.same.2 c.tell_used.ensures.same.1) (c.loop.invariant.0 held)) (c.in_default.ensures.going held),
+      λ held. goes_more _ _ _ (goes_same _ _ _ _ held _ _ (ap (λ p. links_of (λ w. g.H.Words.Rng.stream w) c.args.id.now p c.loop.links) c.tell_used.ensures.same.1) (c.loop.invariant.0 held)) (c.in_default.ensures.going held),
       le_trans inv.1 c.in_default.ensures.later.0,
       le_trans inv.2 c.in_default.ensures.later.1,
       c.in_default.ensures.undrawn ∙ inv.3,

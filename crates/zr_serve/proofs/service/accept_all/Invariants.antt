@@ -12,8 +12,8 @@ use Rattle.zr_serve.proofs.service.accept_all.Given as goal
 abbrev pub invariant-loop : goal.invariant-loop
 invariant-loop g l =
     ((held : Option (List ℕ)) → Goes
-    (moment (g.H.Host.calls l.fn.host) (crew_told l.fn.crew) (crew_faults l.fn.crew) held (links_of (λ w. g.H.Words.Rng.stream w) l.fn.serving.me l.fn.serving.policy l.fn.links))
-    (moment (g.H.Host.calls l.host) (crew_told l.crew) (crew_faults l.crew) held (links_of (λ w. g.H.Words.Rng.stream w) l.serving.me l.serving.policy l.links)))
+    (moment (g.H.Host.calls l.fn.host) (crew_told l.fn.crew) (crew_faults l.fn.crew) held (links_of (λ w. g.H.Words.Rng.stream w) l.id l.fn.serving.policy l.fn.links))
+    (moment (g.H.Host.calls l.host) (crew_told l.crew) (crew_faults l.crew) held (links_of (λ w. g.H.Words.Rng.stream w) l.id l.serving.policy l.links)))
     × (g.H.Host.faults l.fn.host ≤ g.H.Host.faults l.host)
     × (g.H.Host.ends l.fn.host ≤ g.H.Host.ends l.host)
     × (g.H.Host.generators l.host ≡ g.H.Host.generators l.fn.host)

@@ -8,8 +8,8 @@ use Rattle.zr_serve.proofs.service.dial_all.Given as goal
 abbrev pub invariant-loop-target : goal.invariant-loop-target
 invariant-loop-target g l =
     Dials l.targets l.target-index
-    (moment (g.H.Host.calls l.fn.host) (crew_told l.fn.crew) (crew_faults l.fn.crew) (g.E.Sink.held l.fn.err) (links_of (λ w. g.H.Words.Rng.stream w) l.fn.serving.me l.fn.serving.policy l.fn.links))
-    (moment (g.H.Host.calls l.host) (crew_told l.crew) (crew_faults l.crew) (g.E.Sink.held l.err) (links_of (λ w. g.H.Words.Rng.stream w) l.serving.me l.serving.policy l.links))
+    (moment (g.H.Host.calls l.fn.host) (crew_told l.fn.crew) (crew_faults l.fn.crew) (g.E.Sink.held l.fn.err) (links_of (λ w. g.H.Words.Rng.stream w) l.id l.fn.serving.policy l.fn.links))
+    (moment (g.H.Host.calls l.host) (crew_told l.crew) (crew_faults l.crew) (g.E.Sink.held l.err) (links_of (λ w. g.H.Words.Rng.stream w) l.id l.serving.policy l.links))
     × (g.E.Sink.faults l.fn.err ≤ g.E.Sink.faults l.err)
     × (g.H.Host.faults l.fn.host ≤ g.H.Host.faults l.host)
     × (g.H.Host.ends l.fn.host ≤ g.H.Host.ends l.host)

@@ -1,24 +1,26 @@
 -- What opening it answers, and what starting its inner client does.
-use Rattle.std.proofs.Common.{◌≡◌, ◌∙◌, true, Err, ap, le_refl, refl, rules}
+use Rattle.std.proofs.Common.{◌≡◌, true, Err, ap, le_refl, refl, sym, subst, rules}
+use Rattle.zr_access.specs.Rules.{PolicyState}
 use Rattle.zr_outside.proofs.Counting.{rose_not}
-use Rattle.zr_serve.proofs.Linked.{links_same}
+use Rattle.zr_serve.specs.Jobs.{drawn}
+use Rattle.zr_serve.specs.Links.{links_of}
 use Rattle.zr_serve.proofs.Opening.{begins_handed, begins_refused, cause_by, ends_by, ends_spent, ok_by, unsaid_by}
 use Rattle.zr_serve.proofs.service.open_space.Goals as goal
 
 pub returns-in-Ok-clause-begun : goal.returns-in-Ok-clause-begun
 returns-in-Ok-clause-begun g c =
-    let me = c.args.serving.now.me in
+    let me = c.args.plan.now.id in
     let policy = c.args.serving.now.policy in
     let asked : c.args.plan.now.admin ≡ true = search rules in
-    let links = links_same (λ w. g.H.Words.Rng.stream w) me _ policy _ c.draw-word.new.self c.in-Ok.ensures.same.2 c.in-Ok.ensures.same.0 ∙ c.draw-word.ensures.next me policy in
+    let links = subst (λ (p : PolicyState). links_of (λ w. g.H.Words.Rng.stream w) me p c.draw-word.new.self ≡ drawn (links_of (λ w. g.H.Words.Rng.stream w) me policy c.args.links.now)) (sym c.in-Ok.ensures.same.0) (c.draw-word.ensures.next me policy) in
     ok_by c.start_inner.result (begins_handed _ _ _ _ _ _ _ _ _ _ _ _ _ _ asked c.time.ensures.told (c.draw-word.ensures.word me policy) links c.in-Ok.ensures.opened) c.start_inner.ensures.handed
 
 pub returns-in-Err-Refused-clause-begun : goal.returns-in-Err-Refused-clause-begun
 returns-in-Err-Refused-clause-begun g c =
-    let me = c.args.serving.now.me in
+    let me = c.args.plan.now.id in
     let policy = c.args.serving.now.policy in
     let asked : c.args.plan.now.admin ≡ true = search rules in
-    let links = links_same (λ w. g.H.Words.Rng.stream w) me _ policy _ c.draw-word.new.self c.in-Err-Refused.ensures.same.2 c.in-Err-Refused.ensures.same.0 ∙ c.draw-word.ensures.next me policy in
+    let links = subst (λ (p : PolicyState). links_of (λ w. g.H.Words.Rng.stream w) me p c.draw-word.new.self ≡ drawn (links_of (λ w. g.H.Words.Rng.stream w) me policy c.args.links.now)) (sym c.in-Err-Refused.ensures.same.0) (c.draw-word.ensures.next me policy) in
     let refused = c.in-Err-Refused.ensures.refused (ap Err c.in-Err-Refused.field-0-is) in
     ok_by c.say_refused.result (begins_refused _ _ _ _ _ _ _ _ _ _ _ _ _ _ asked refl (c.draw-word.ensures.word me policy) links refused refl refl) c.say_refused.ensures.said
 

@@ -19,7 +19,7 @@ returns-clause-links g c = c.next-begins.ensures.next c.args.serving.now.policy
 pub returns-clause-started : goal.returns-clause-started
 returns-clause-started g c =
     let rules = c.args.serving.now.policy in
-    let links : LinksState = links_of (λ w. g.H.Words.Rng.stream w) c.args.serving.now.me rules c.args.links.now in
+    let links : LinksState = links_of (λ w. g.H.Words.Rng.stream w) c.args.id.now rules c.args.links.now in
     let link : NewLink = record { side = c.args.side; weight = c.args.weight } in
     let begins = ap (λ (s : LinkStart). Link (record { start = s; policy = c.in-Ok.policy })) (c.next-begins.ensures.start rules) in
     let ruled = ap (λ (p : PolicyState). Link (record { start = next_start links link; policy = p })) c.in-Ok.ensures.policy in
