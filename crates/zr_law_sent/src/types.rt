@@ -137,6 +137,7 @@ fn of_snapshot(source: &Zid, decls: &[Decl])
 fn of_id(id: u32)
     ensures { IsId id }
 {
+    // Read, so that the proof knows that it fits in 32 bits.
     let _ = id;
 }
 
@@ -152,6 +153,7 @@ fn of_some_id(id: Option<u32>)
 fn of_key(key: &KeyExpr)
     ensures { IsKey key.now }
 {
+    // Read, so that the proof knows that the text is one of a key.
     let _ = key.text();
 }
 
@@ -166,6 +168,7 @@ fn of_some_key(key: &Option<KeyExpr>)
 fn of_zid(id: &Zid)
     ensures { is_zid id.now ≡ true }
 {
+    // Read, so that the proof knows that they are an identifier's.
     let _ = id.bytes();
 }
 
@@ -181,6 +184,7 @@ fn of_number(number: Option<u64>)
     ensures { NumberFits number }
 {
     if let Some(number) = number {
+        // Read, so that the proof knows that it fits in 64 bits.
         let _ = number;
     }
 }
@@ -211,6 +215,7 @@ fn of_linked(link: &Linked)
 fn of_weight(weight: u16)
     ensures { nat_lt weight (2 ^ 16) ≡ true }
 {
+    // Read, so that the proof knows that it fits in 16 bits.
     let _ = weight;
 }
 
@@ -233,6 +238,7 @@ fn of_record(links: &LinkRecord)
 fn of_decl(decl: &Decl)
     ensures { is_decl decl.now ≡ true }
 {
+    // Read, so that the proof knows that the text is one of a key.
     let _ = decl.key.text();
 }
 

@@ -6,6 +6,7 @@ pub mod Early
 pub mod Free
 pub mod Handled
 pub mod HeldAfter
+pub mod Hints
 pub mod Judged
 pub mod Logged
 pub mod Messages

@@ -1,13 +1,16 @@
 //! The links of a router in ascending order of their numbers.
 
-ghost use Rattle.std.specs.Prelude.{◌≡◌, ◌<◌, ◌^◌, [], length, None, true, OnOk, IfOk, IfSome, OnErr};
+ghost use Rattle.std.specs.Prelude.{◌≡◌, ◌≤◌, ◌<◌, ◌^◌, [], length, Some, None, true, OnOk, IfOk, IfSome, OnErr};
+ghost use Rattle.std.specs.BTreeMap.{Updates, IsUnchanged};
+ghost use Rattle.std.specs.Cmp.Lexicographic.{slice_cmp};
+ghost use Rattle.std.specs.List.{insert};
 ghost use Rattle.std.specs.Option.{option_map};
 ghost use Rattle.std.specs.Ordering.{nat_cmp};
 ghost use Rattle.zr_node_spec.specs.Tables.{AreNumbered, link_at, link_to, free_link};
 ghost use Rattle.zr_lists.specs.Place.{IsGap, IsPlace};
 ghost use Rattle.zr_node_spec.specs.State.{new_link};
 ghost use Rattle.zr_node_spec.specs.Table.{with_link, without_link};
-ghost use Rattle.zr_node.specs.Hints.{leads_to};
+ghost use Rattle.zr_node.specs.Hints.{AreOfLinks, leads_to};
 
 use std::alloc::{AllocError, Global};
 use std::collections::BTreeMap;
@@ -23,7 +26,8 @@ const MOST_LINKS: usize = 4_294_967_295;
 #[derive(Drop)]
 pub struct Links {
     all: Vec<LinkPeer>,
-    // by a neighbour's name, the number under which a link to it last came up: a hint, which is checked at the link
+    // By a neighbour's name, the number under which a link to it last came up: a hint, which is checked at the link. Only neighbours whose links
+    // are up have one, so there are never more hints than links.
     numbers: BTreeMap<Zid, LinkNo>,
 }
 
@@ -31,12 +35,13 @@ impl Model for Links {
     ghost use Rattle.std.specs.Prelude.{◌<◌, ◌^◌, List, length};
     ghost use Rattle.zr_msg.specs.declared.peer.LinkPeer.{LinkPeer};
     ghost use Rattle.zr_node_spec.specs.Tables.{AreNumbered};
+    ghost use Rattle.zr_node.specs.Hints.{AreOfLinks};
 
     ghost Value = { List LinkPeer };
 
     ghost view = { λ l. l.all.items };
 
-    ghost invariant = { λ l. AreNumbered l.all.items × (length l.all.items < 2 ^ 32) };
+    ghost invariant = { λ l. AreNumbered l.all.items × (length l.all.items < 2 ^ 32) × AreOfLinks l.numbers l.all.items };
 }
 
 impl Links {
@@ -116,9 +121,12 @@ impl Links {
             return Err(AllocError);
         }
         let at = gap_of(self.all.as_slice(), number);
-        hint(&mut self.numbers, &peer.id, number)?;
-        self.all.insert(at, LinkPeer { link: number, peer })?;
-        Ok(())
+        put(
+            &mut self.all,
+            &mut self.numbers,
+            at,
+            LinkPeer { link: number, peer },
+        )
     }
 
     /// A link has gone down.
@@ -164,14 +172,39 @@ fn gap_of(links: &[LinkPeer], number: LinkNo) -> usize
     }
 }
 
+// A link has come up, which is put at this place, with its hint. Where memory runs out, nothing has changed.
+#[tactic(auto, using(crate::proofs::Hints::put_undone))]
+fn put(
+    links: &mut Vec<LinkPeer>,
+    numbers: &mut BTreeMap<Zid, LinkNo>,
+    at: usize,
+    link: LinkPeer,
+) -> Result<(), AllocError>
+    requires { at ≤ length links.old.items }
+    ensures ok { OnOk result ((links.new.items ≡ insert links.old.items at link) × Updates (slice_cmp nat_cmp) numbers.old numbers.new link.peer.id (Some link.link)) }
+    ensures err { OnErr result ((links.new.items ≡ links.old.items) × IsUnchanged numbers.old numbers.new) }
+{
+    links.insert(at, link)?;
+    if let Err(failed) = hint(numbers, &link.peer.id, link.link) {
+        links.remove(at);
+        return Err(failed);
+    }
+    Ok(())
+}
+
 // A link has come up under this number.
-fn hint(numbers: &mut BTreeMap<Zid, LinkNo>, name: &Zid, number: LinkNo) -> Result<(), AllocError> {
+fn hint(numbers: &mut BTreeMap<Zid, LinkNo>, name: &Zid, number: LinkNo) -> Result<(), AllocError>
+    ensures ok { OnOk result (Updates (slice_cmp nat_cmp) numbers.old numbers.new name.now (Some number)) }
+    ensures err { OnErr result (IsUnchanged numbers.old numbers.new) }
+{
     numbers.insert(*name, number)?;
     Ok(())
 }
 
 // The numbers of all links.
-fn hints_of(alloc: Global, links: &[LinkPeer]) -> Result<BTreeMap<Zid, LinkNo>, AllocError> {
+fn hints_of(alloc: Global, links: &[LinkPeer]) -> Result<BTreeMap<Zid, LinkNo>, AllocError>
+    ensures { IfOk result (λ numbers. AreOfLinks numbers links.now) }
+{
     let mut numbers = BTreeMap::new(alloc);
     for link in links {
         hint(&mut numbers, &link.peer.id, link.link)?;
@@ -181,12 +214,21 @@ fn hints_of(alloc: Global, links: &[LinkPeer]) -> Result<BTreeMap<Zid, LinkNo>, 
 
 // The link has gone down.
 fn forget_hint(numbers: &mut BTreeMap<Zid, LinkNo>, links: &[LinkPeer], gone: LinkNo)
-    requires { AreNumbered links.now }
+    requires ascending { AreNumbered links.now }
+    requires of_links { AreOfLinks numbers.old links.now }
+    ensures { AreOfLinks numbers.new (without_link links.now gone.0) }
 {
     if let Ok(at) = place_of(links, gone) {
         let peer = links[at].peer;
-        numbers.remove(&peer.id);
+        forget(numbers, &peer.id);
     }
+}
+
+// No number is remembered under this name any more.
+fn forget(numbers: &mut BTreeMap<Zid, LinkNo>, name: &Zid)
+    ensures { Updates (slice_cmp nat_cmp) numbers.old numbers.new name.now None }
+{
+    numbers.remove(name);
 }
 
 fn take_out(links: &mut Vec<LinkPeer>, gone: LinkNo)

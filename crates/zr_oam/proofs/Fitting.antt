@@ -17,7 +17,7 @@ use Rattle.zr_format_spec.specs.Format.{Format, gives, fails, unknown, choose, â
 use Rattle.zr_format_spec.proofs.Spelled.{spelled_allows, spelled_checked}
 use Rattle.zr_format_spec.proofs.Series.{spelled_series}
 use Rattle.zr_id.specs.Zid.{is_zid}
-use Rattle.zr_id.specs.Record.{LinkedState, RecordState, may_follow, are_in_order}
+use Rattle.zr_id.specs.Record.{LinkedState, RecordState, are_in_order}
 use Rattle.zr_msg.specs.declared.decl.Decl.{Decl}
 use Rattle.zr_msg.specs.declared.msg.Msg.{Msg}
 use Rattle.zr_msg.specs.declared.msg.Msg.TheVariants.{State, Step, Snap}

@@ -27,3 +27,6 @@ pub(crate) const MOST_CONTENT: u64 = (1 << 32) - 1;
 pub(crate) const MOST_ID: u64 = 255;
 
 pub(crate) const MOST_KEY: u64 = (1 << 16) - 1;
+
+/// The numbers below it are one byte.
+pub(crate) const ONE_BYTE: u8 = 128;

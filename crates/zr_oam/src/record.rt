@@ -1,14 +1,14 @@
 //! Reading a link record.
 
-ghost use Rattle.std.specs.Prelude.{◌≡◌, ◌<◌, ◌^◌, None, IfOk, true};
-ghost use Rattle.zr_bytes.specs.Reading.{Steps};
+ghost use Rattle.std.specs.Prelude.{◌≡◌, ◌<◌, ◌^◌, None, IfOk, IfSome, Ok, true};
+ghost use Rattle.zr_bytes.specs.Reading.{Reads, ReadsBy, Steps, number_of, text_of};
 ghost use Rattle.zr_format_spec.specs.Reading.{Makes, last_of, series_of, whole_of};
 ghost use Rattle.zr_id.specs.Record.{are_links};
 ghost use Rattle.zr_oam.specs.Oam.{last_id};
 ghost use Rattle.zr_oam.specs.Reading.{zid_of, weight_of, neighbour_of, link_of, record_of};
 
 use crate::gathered::Gathered;
-use crate::parts::MOST_ID;
+use crate::parts::{MOST_ID, ONE_BYTE};
 use std::alloc::Global;
 use zr_bytes::{Cursor, ReadError};
 use zr_id::record::{LinkRecord, Linked, may_follow};
@@ -25,7 +25,7 @@ pub(crate) fn read_record(
     ensures { Steps (λ r. r) result (record_of weighted c.old) c.new }
 {
     let id = read_zid(c)?;
-    let seq = c.zint()?;
+    let seq = read_number(c)?;
     let count = c.z16()?;
     let links = read_links(alloc, c, &id, count, weighted)?;
     Ok(LinkRecord::new(id, seq, links))
@@ -107,8 +107,48 @@ fn read_weight(c: &mut Cursor<'_>, weighted: bool) -> Result<u16, ReadError>
 pub(crate) fn read_zid(c: &mut Cursor<'_>) -> Result<Zid, ReadError>
     ensures { Steps (λ id. id) result (zid_of c.old) c.new }
 {
-    match Zid::from_bytes(c.bytes(MOST_ID)?) {
+    match Zid::from_bytes(read_text(c)?) {
         Ok(id) => Ok(id),
         Err(_) => Err(ReadError::BadText),
+    }
+}
+
+/// A byte string of at most 255 bytes behind its length. Most lengths are one byte, which is read without a loop over groups.
+fn read_text<'a>(c: &mut Cursor<'a>) -> Result<&'a [u8], ReadError>
+    ensures { ReadsBy (λ text. text.now) result (text_of 255 c.old) c.old c.new }
+{
+    match short_text(c) {
+        Some((text, rest)) => {
+            *c = Cursor::new(rest);
+            Ok(text)
+        }
+        None => c.bytes(MOST_ID),
+    }
+}
+
+fn short_text<'a>(c: &Cursor<'a>) -> Option<(&'a [u8], &'a [u8])>
+    ensures { IfSome result (λ x. text_of 255 c.now ≡ Ok (x.0.now, x.1.now)) }
+{
+    let mut ahead = c.fork();
+    match ahead.u8() {
+        Ok(count) if count < ONE_BYTE && usize::from(count) <= ahead.left() => {
+            Some(ahead.as_slice().split_at(usize::from(count)))
+        }
+        _ => None,
+    }
+}
+
+/// A number. Most are one byte, as the lengths.
+#[tactic(auto, using(crate::proofs::Contents::number_of_one))]
+fn read_number(c: &mut Cursor<'_>) -> Result<u64, ReadError>
+    ensures { Reads result (number_of c.old) c.old c.new }
+{
+    let mut ahead = c.fork();
+    match ahead.u8() {
+        Ok(byte) if byte < ONE_BYTE => {
+            *c = ahead;
+            Ok(u64::from(byte))
+        }
+        _ => c.zint(),
     }
 }

@@ -1,6 +1,6 @@
 //! The one spelling of a message between routers that is written.
 
-ghost use Rattle.std.specs.Prelude.{◌≡◌, ◌∷◌, ◌++◌, OnOk, OnErr, length};
+ghost use Rattle.std.specs.Prelude.{◌≡◌, ◌+◌, ◌-◌, ◌*◌, ◌<◌, ◌≤◌, [], ◌∷◌, ◌++◌, OnOk, OnErr, length, take, drop};
 ghost use Rattle.std.specs.List.{flat_map};
 ghost use Rattle.zr_bytes.specs.Number.{writes};
 ghost use Rattle.zr_bytes.specs.Text.{writes_text};
@@ -9,7 +9,9 @@ ghost use Rattle.zr_msg.specs.declared.msg.Msg.TheVariants.{State};
 ghost use Rattle.zr_oam.specs.Writing.{Fits, writes_decl, writes_linked, writes_record, weigh_one, writes_head, writes_step, writes_snap, writes_own, writes_oam};
 
 use crate::decl::kind_byte;
-use crate::parts::{ADDED, DECLARATIONS, OWN, RECORD, REMOVED, SNAPSHOT, WEIGHTED_RECORD};
+use crate::parts::{
+    ADDED, DECLARATIONS, ONE_BYTE, OWN, RECORD, REMOVED, SNAPSHOT, WEIGHTED_RECORD,
+};
 use std::alloc::AllocError;
 use zr_bytes::{all_or_nothing, put_bytes, put_zint};
 use zr_id::record::{LinkRecord, Linked};
@@ -17,8 +19,12 @@ use zr_id::zid::Zid;
 use zr_msg::decl::Decl;
 use zr_msg::msg::Msg;
 
+/// Room for most changes, so that making one takes memory once.
+const FEW_BYTES: usize = 64;
+
 /// Appends a record, or declarations: each record, each change from number 1 on, and a snapshot from number 1 on whose declarations are strictly
-/// ascending. The content is made apart first, since its length stands before it. Where memory runs out nothing is appended.
+/// ascending. A record is written in its place, and its length last; what clients declare is made apart first, since its length stands before it. Where
+/// memory runs out nothing is appended.
 pub fn write_oam(out: &mut Vec<u8>, msg: &Msg) -> Result<(), AllocError>
     requires { Fits msg.now }
     ensures ok { OnOk result (out.new.items ≡ out.old.items ++ writes_oam msg.now) }
@@ -92,40 +98,98 @@ fn put_record(
     links: &LinkRecord,
     weighted: bool,
 ) -> Result<(), AllocError>
+    requires { 128 * 128 ≤ id }
     ensures ok { OnOk result (out.new.items ≡ out.old.items ++ writes_own id (writes_record weighted links.now)) }
     ensures err { OnErr result (KeepsFront out.old.items out.new.items) }
 {
-    let mut content = Vec::new(*out.allocator());
-    put_content(&mut content, links, weighted)?;
-    put_own(out, id, &content)
+    put_start(out, id)?;
+    let start = out.len();
+    put_content(out, links, weighted)?;
+    put_length(out, start)
+}
+
+/// What stands before a record, with one byte in the place of its length. The id takes three bytes.
+fn put_start(out: &mut Vec<u8>, id: u16) -> Result<(), AllocError>
+    requires { 128 * 128 ≤ id }
+    ensures ok { OnOk result (out.new.items ≡ out.old.items ++ ((0x5F ∷ writes id) ++ 0 ∷ [])) }
+    ensures err { OnErr result (out.new.items ≡ out.old.items) }
+{
+    let low = (id % 128) as u8 + 128;
+    let middle = (id / 128 % 128) as u8 + 128;
+    let high = (id / 128 / 128) as u8;
+    out.extend_from_slice(&[OWN, low, middle, high, 0])
+}
+
+/// Puts the length of what is behind `start` into the place of the byte before it. A longer one than a byte moves what is behind.
+fn put_length(out: &mut Vec<u8>, start: usize) -> Result<(), AllocError>
+    requires first { 0 < start }
+    requires within { start ≤ length out.old.items }
+    ensures ok { OnOk result (out.new.items ≡ take (start - 1) out.old.items ++ writes_text (drop start out.old.items)) }
+    ensures err { OnErr result (take (start - 1) out.new.items ≡ take (start - 1) out.old.items) }
+{
+    let count = out.len() - start;
+    if count < usize::from(ONE_BYTE) {
+        out[start - 1] = count as u8;
+        return Ok(());
+    }
+    let content = out[start..].to_vec(*out.allocator())?;
+    out.truncate(start - 1);
+    put_bytes(out, &content)
 }
 
 #[tactic(auto, using(crate::proofs::Contents::both_put))]
-fn put_content(content: &mut Vec<u8>, links: &LinkRecord, weighted: bool) -> Result<(), AllocError>
-    ensures { OnOk result (content.new.items ≡ content.old.items ++ writes_record weighted links.now) }
+fn put_content(out: &mut Vec<u8>, links: &LinkRecord, weighted: bool) -> Result<(), AllocError>
+    ensures ok { OnOk result (out.new.items ≡ out.old.items ++ writes_record weighted links.now) }
+    ensures err { OnErr result (KeepsFront out.old.items out.new.items) }
 {
-    put_name(content, &links.id(), links.seq())?;
-    put_counted(content, links.links(), weighted)
+    put_name(out, &links.id(), links.seq())?;
+    put_counted(out, links.links(), weighted)
 }
 
 /// A router and a number.
 fn put_name(out: &mut Vec<u8>, id: &Zid, number: u64) -> Result<(), AllocError>
-    ensures { OnOk result (out.new.items ≡ out.old.items ++ (writes_text id.now ++ writes number)) }
+    ensures ok { OnOk result (out.new.items ≡ out.old.items ++ (writes_text id.now ++ writes number)) }
+    ensures err { OnErr result (KeepsFront out.old.items out.new.items) }
 {
-    put_bytes(out, id.bytes())?;
-    put_zint(out, number)
+    put_id(out, id)?;
+    put_number(out, number)
+}
+
+/// An identifier behind its length.
+fn put_id(out: &mut Vec<u8>, id: &Zid) -> Result<(), AllocError>
+    ensures ok { OnOk result (out.new.items ≡ out.old.items ++ writes_text id.now) }
+    ensures err { OnErr result (KeepsFront out.old.items out.new.items) }
+{
+    let bytes = id.bytes();
+    put_number(out, bytes.len() as u64)?;
+    out.extend_from_slice(bytes)
+}
+
+/// A number, as [`put_zint`]. Most are one byte, which goes without a copy of several.
+#[tactic(auto, using(crate::proofs::Contents::one_byte))]
+fn put_number(out: &mut Vec<u8>, value: u64) -> Result<(), AllocError>
+    ensures ok { OnOk result (out.new.items ≡ out.old.items ++ writes value) }
+    ensures err { OnErr result (out.new.items ≡ out.old.items) }
+{
+    if value < u64::from(ONE_BYTE) {
+        out.push(value as u8)?;
+        return Ok(());
+    }
+    put_zint(out, value)
 }
 
 /// The count of links, and the links.
 fn put_counted(out: &mut Vec<u8>, links: &[Linked], weighted: bool) -> Result<(), AllocError>
-    ensures { OnOk result (out.new.items ≡ out.old.items ++ (writes (length links.now) ++ flat_map (λ link. writes_linked weighted link) links.now)) }
+    ensures ok { OnOk result (out.new.items ≡ out.old.items ++ (writes (length links.now) ++ flat_map (λ link. writes_linked weighted link) links.now)) }
+    ensures err { OnErr result (KeepsFront out.old.items out.new.items) }
 {
-    put_zint(out, links.len() as u64)?;
+    put_number(out, links.len() as u64)?;
     put_links(out, links, weighted)
 }
 
 fn put_links(out: &mut Vec<u8>, links: &[Linked], weighted: bool) -> Result<(), AllocError>
-    ensures { OnOk result (out.new.items ≡ out.old.items ++ flat_map (λ link. writes_linked weighted link) links.now) }
+    ensures ok { OnOk result (out.new.items ≡ out.old.items ++ flat_map (λ link. writes_linked weighted link) links.now) }
+    ensures err { OnErr result (KeepsFront out.old.items out.new.items) }
 {
     for link in links {
         put_link(out, link, weighted)?;
@@ -134,11 +198,12 @@ fn put_links(out: &mut Vec<u8>, links: &[Linked], weighted: bool) -> Result<(), 
 }
 
 fn put_link(out: &mut Vec<u8>, link: &Linked, weighted: bool) -> Result<(), AllocError>
-    ensures { OnOk result (out.new.items ≡ out.old.items ++ writes_linked weighted link.now) }
+    ensures ok { OnOk result (out.new.items ≡ out.old.items ++ writes_linked weighted link.now) }
+    ensures err { OnErr result (KeepsFront out.old.items out.new.items) }
 {
-    put_bytes(out, link.id.bytes())?;
+    put_id(out, &link.id)?;
     if weighted {
-        put_zint(out, u64::from(link.weight))?;
+        put_number(out, u64::from(link.weight))?;
     }
     Ok(())
 }
@@ -153,7 +218,7 @@ fn put_step(
     ensures ok { OnOk result (out.new.items ≡ out.old.items ++ writes_own 0x5A02 (writes_step source.now number added decl.now)) }
     ensures err { OnErr result (KeepsFront out.old.items out.new.items) }
 {
-    let mut content = Vec::new(*out.allocator());
+    let mut content = Vec::with_capacity(*out.allocator(), FEW_BYTES)?;
     put_head(
         &mut content,
         if added { ADDED } else { REMOVED },

@@ -2,6 +2,7 @@
 
 ghost use Rattle.std.specs.Prelude.{◌≡◌, ◌&&◌, ◌||◌, not, true, false, IfOk, OnOk, OnErr};
 ghost use Rattle.std.specs.List.{list_all, list_any};
+ghost use Rattle.std.specs.BTreeMap.{values};
 ghost use Rattle.std.specs.Option.{option_map_or};
 ghost use Rattle.zr_pend_numbers.specs.Numbers.{is_used};
 ghost use Rattle.zr_pend_rows.specs.Tied.{AreAsked, as_branch};
@@ -9,7 +10,7 @@ ghost use Rattle.zr_pend_spec.specs.Row.{is_branch};
 
 use crate::row::Row;
 use std::alloc::{AllocError, Global};
-use std::collections::VecDeque;
+use std::collections::BTreeMap;
 use zr_pend_numbers::numbers::Numbers;
 use zr_pend_spec::branch::{Asker, Branch};
 
@@ -24,11 +25,11 @@ pub fn as_branch(asker: Asker) -> Branch
 }
 
 /// The numbers under which each link has asked.
-pub fn askers_in(alloc: Global, rows: &VecDeque<Row>) -> Result<Numbers, AllocError>
-    ensures { IfOk result (λ ns. AreAsked ns rows.now.items) }
+pub fn askers_in(alloc: Global, rows: &BTreeMap<u64, Row>) -> Result<Numbers, AllocError>
+    ensures { IfOk result (λ ns. AreAsked ns (values rows.now)) }
 {
     let mut asked = Numbers::new(alloc);
-    for row in rows {
+    for row in rows.values() {
         put_asker(&mut asked, alloc, row.asker())?;
     }
     Ok(asked)
@@ -65,6 +66,15 @@ pub fn enter(
         asked.take(own);
     }
     done
+}
+
+/// A request has not begun after all: the numbers of its branches are free, and its asker hasn't asked.
+pub fn withdraw(pending: &mut Numbers, asked: &mut Numbers, asker: Asker, branches: &[Branch])
+    ensures pending { (c : Branch) → is_used pending.new c ≡ (not (list_any (λ b. is_branch c b) branches.now) && is_used pending.old c) }
+    ensures asked { (c : Branch) → is_used asked.new c ≡ (not (is_branch c (as_branch asker)) && is_used asked.old c) }
+{
+    pending.take_all(branches);
+    asked.take(as_branch(asker));
 }
 
 /// An asker has got the final: it has asked no more.

@@ -2,7 +2,7 @@
 
 use crate::row::Row;
 use std::alloc::{AllocError, Global};
-use std::collections::{BTreeMap, VecDeque};
+use std::collections::BTreeMap;
 use zr_id::link::LinkNo;
 use zr_pend_spec::branch::Branch;
 
@@ -11,8 +11,6 @@ use zr_pend_spec::branch::Branch;
 /// What it says is looked up and then looked at: a row is taken for that of a branch because it has the branch. So no clause speaks of it.
 #[derive(Drop)]
 pub struct Places {
-    // the place of the row that begins next
-    next: u64,
     rows: BTreeMap<(u32, u32), u64>,
 }
 
@@ -20,19 +18,17 @@ impl Places {
     /// It takes no memory.
     pub fn new(alloc: Global) -> Places {
         Places {
-            next: 0,
             rows: BTreeMap::new(alloc),
         }
     }
 
-    /// Those of these rows once more.
-    pub fn copy(&self, alloc: Global, rows: &VecDeque<Row>) -> Result<Places, AllocError> {
-        let mut copy = Places::new(alloc);
-        for row in rows {
-            copy.put_at(row.place(), row.branches())?;
+    /// Those of these rows.
+    pub fn of(alloc: Global, rows: &BTreeMap<u64, Row>) -> Result<Places, AllocError> {
+        let mut places = Places::new(alloc);
+        for (place, row) in rows {
+            places.put(*place, row.branches())?;
         }
-        copy.next = self.next;
-        Ok(copy)
+        Ok(places)
     }
 
     /// The place of the row of a branch.
@@ -40,15 +36,8 @@ impl Places {
         self.rows.get(&(branch.link.0, branch.number)).copied()
     }
 
-    /// A row with these branches begins: its place, behind all others.
-    pub fn put(&mut self, branches: &[Branch]) -> Result<u64, AllocError> {
-        let place = self.next;
-        self.put_at(place, branches)?;
-        self.next = place.wrapping_add(1);
-        Ok(place)
-    }
-
-    fn put_at(&mut self, place: u64, branches: &[Branch]) -> Result<(), AllocError> {
+    /// A row with these branches begins at a place.
+    pub fn put(&mut self, place: u64, branches: &[Branch]) -> Result<(), AllocError> {
         for branch in branches {
             self.rows.insert((branch.link.0, branch.number), place)?;
         }

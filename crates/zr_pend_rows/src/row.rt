@@ -1,19 +1,20 @@
 //! One request that was passed on: a row of the pending requests, and what is asked of several rows.
 
 ghost use Rattle.std.specs.Prelude.{◌≡◌, not, filter, IfOk};
+ghost use Rattle.std.specs.BTreeMap.{values};
 ghost use Rattle.std.specs.List.{list_all};
 ghost use Rattle.zr_pend_spec.specs.Row.{is_branch, has, is_done, is_last, is_of, without, orphaned};
 
 use std::alloc::{AllocError, Global};
-use std::collections::VecDeque;
+use std::collections::BTreeMap;
 use std::marker::Model;
 use zr_id::link::LinkNo;
 use zr_pend_spec::branch::{Asker, Branch};
+use zr_places::push;
 
 /// A request that was passed on: who asked it, unless that link went down, and its pending branches.
 #[derive(Drop)]
 pub struct Row {
-    place: u64,
     asker: Option<Asker>,
     branches: Vec<Branch>,
 }
@@ -27,12 +28,11 @@ impl Model for Row {
 }
 
 impl Row {
-    /// A request that this asker sent, with its branches, and its place in the order in which requests began.
-    pub fn new(place: u64, asker: Asker, branches: Vec<Branch>) -> Row
+    /// A request that this asker sent, with its branches.
+    pub fn new(asker: Asker, branches: Vec<Branch>) -> Row
         ensures { result ≡ record { asker = Some asker; branches = branches.items } }
     {
         Row {
-            place,
             asker: Some(asker),
             branches,
         }
@@ -43,15 +43,9 @@ impl Row {
         ensures { IfOk result (λ r. r ≡ self.now) }
     {
         Ok(Row {
-            place: self.place,
             asker: self.asker,
             branches: Vec::from_slice(alloc, &self.branches)?,
         })
-    }
-
-    /// Its place in the order in which requests began.
-    pub fn place(&self) -> u64 {
-        self.place
     }
 
     /// Who asked, where its link is still up.
@@ -134,13 +128,13 @@ fn end_branch(branches: &mut Vec<Branch>, branch: Branch)
     branches.retain(|b| !is_branch(branch, b));
 }
 
-/// Second rows, equal to these.
-pub fn copies_of(alloc: Global, rows: &VecDeque<Row>) -> Result<VecDeque<Row>, AllocError>
-    ensures { IfOk result (λ v. v.items ≡ rows.now.items) }
+/// Second rows, equal to these, in the same order.
+pub fn copies_of(alloc: Global, rows: &BTreeMap<u64, Row>) -> Result<BTreeMap<u64, Row>, AllocError>
+    ensures { IfOk result (λ m. values m ≡ values rows.now) }
 {
-    let mut copies = VecDeque::with_capacity(alloc, rows.len())?;
-    for row in rows {
-        copies.push_back(row.copy(alloc)?)?;
+    let mut copies = BTreeMap::new(alloc);
+    for row in rows.values() {
+        push(&mut copies, row.copy(alloc)?)?;
     }
     Ok(copies)
 }

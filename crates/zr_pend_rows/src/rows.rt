@@ -1,19 +1,20 @@
 //! All rows of a router: what a call of the table asks of them, and what it makes of them.
 
-ghost use Rattle.std.specs.Prelude.{◌≡◌, ◌==◌, ◌≤◌, ◌<◌, ◌+◌, ◌-◌, ◌^◌, ◌++◌, ◌∷◌, [], true, false, None, map, filter, take, drop, length, if◌then◌else◌, slice_index_or, replicate, min, IfOk, IfSome, OnOk, OnErr};
-ghost use Rattle.std.specs.List.{list_any, fold};
-ghost use Rattle.std.specs.Option.{option_to_list};
+ghost use Rattle.std.specs.Prelude.{◌≡◌, ◌≤◌, ◌+◌, ◌++◌, true, false, None, Some, IsTrue, map, length, if◌then◌else◌, IfOk, IfSome};
+ghost use Rattle.std.specs.Map.{remove_entry, set_value};
+ghost use Rattle.std.specs.Option.{IsSomeAnd, option_and_then, option_map_or, option_to_list};
+ghost use Rattle.std.specs.Ordering.{nat_cmp};
 ghost use Rattle.std.specs.Vec.{vec_len, vec_capacity};
-ghost use Rattle.std.specs.VecDeque.{deque_len, deque_capacity};
+ghost use Rattle.std.specs.BTreeMap.{get, is_at, values};
 ghost use Rattle.zr_pend_rows.specs.Ending.{all_ended, ended, finals_among, left};
 ghost use Rattle.zr_pend_rows.specs.Tied.{ArePending};
-ghost use Rattle.zr_pend_spec.specs.Row.{has, is_last};
-ghost use Rattle.zr_pend_spec.specs.Pending.{IsSound, asker_of, is_pending, numbers_on, is_full, branch, free_number, branches, are_distinct, opened, finished, final_to, placed, ascending, all_finished, finals, all_orphaned};
+ghost use Rattle.zr_pend_spec.specs.Row.{has, is_last, without};
+ghost use Rattle.zr_pend_spec.specs.Pending.{IsSound, all_finished, all_orphaned, are_distinct, asker_of, branch, branches, final_to, finals, finished, is_pending};
 
 use crate::places::Places;
 use crate::row::Row;
 use std::alloc::{AllocError, Global};
-use std::collections::VecDeque;
+use std::collections::BTreeMap;
 use zr_id::link::LinkNo;
 use zr_pend_numbers::numbers::Numbers;
 use zr_pend_spec::branch::{Asker, Branch};
@@ -26,46 +27,47 @@ pub fn numbers_of(alloc: Global, branches: &[Branch]) -> Result<Vec<u32>, AllocE
 }
 
 /// The numbers that are pending on each link.
-pub fn numbers_in(alloc: Global, rows: &VecDeque<Row>) -> Result<Numbers, AllocError>
-    ensures { IfOk result (λ ns. ArePending ns rows.now.items) }
+pub fn numbers_in(alloc: Global, rows: &BTreeMap<u64, Row>) -> Result<Numbers, AllocError>
+    ensures { IfOk result (λ ns. ArePending ns (values rows.now)) }
 {
     let mut numbers = Numbers::new(alloc);
-    for row in rows {
+    for row in rows.values() {
         numbers.put_each(alloc, row.branches())?;
     }
     Ok(numbers)
 }
 
-/// Puts a row behind the others. There is room for it.
-pub fn put(rows: &mut VecDeque<Row>, row: Row)
-    requires { deque_len rows.old + 1 ≤ deque_capacity rows.old }
-    ensures { rows.new.items ≡ rows.old.items ++ row ∷ [] }
+/// Who asked the row of a branch.
+#[tactic(auto, using(crate::proofs::Ending::none_asked))]
+pub fn asker_of(rows: &BTreeMap<u64, Row>, places: &Places, branch: Branch) -> Option<Asker>
+    requires sound { IsSound (values rows.now) }
+    ensures { result ≡ asker_of branch (values rows.now) }
 {
-    rows.push_back_reserved(row);
+    match place_of(rows, places.get(branch), branch) {
+        Some(place) => asker_at(rows, place),
+        None => None,
+    }
 }
 
-/// Who asked the row of a branch.
-#[tactic(auto, using(crate::proofs::Ending::asker_at, crate::proofs::Ending::none_asked))]
-pub fn asker_of(rows: &VecDeque<Row>, places: &Places, branch: Branch) -> Option<Asker>
-    requires sound { IsSound rows.now.items }
-    ensures { result ≡ asker_of branch rows.now.items }
+fn asker_at(rows: &BTreeMap<u64, Row>, place: u64) -> Option<Asker>
+    ensures { result ≡ option_and_then (λ r. r.asker) (get nat_cmp rows.now place) }
 {
-    match row_of(rows, places.get(branch), branch) {
-        Some(at) => rows[at].asker(),
+    match rows.get(&place) {
+        Some(row) => row.asker(),
         None => None,
     }
 }
 
 /// Ends a branch: who gets the final, where there is one.
 #[tactic(auto, using(zr_pend_spec::proofs::OneEnd::none_ends, zr_pend_spec::proofs::OneEnd::none_final))]
-pub fn finish(rows: &mut VecDeque<Row>, places: &mut Places, branch: Branch) -> Option<Asker>
-    requires sound { IsSound rows.old.items }
-    ensures asker { result ≡ final_to rows.old.items branch }
-    ensures rows { rows.new.items ≡ finished rows.old.items branch }
+pub fn finish(rows: &mut BTreeMap<u64, Row>, places: &mut Places, branch: Branch) -> Option<Asker>
+    requires sound { IsSound (values rows.old) }
+    ensures asker { result ≡ final_to (values rows.old) branch }
+    ensures rows { values rows.new ≡ finished (values rows.old) branch }
 {
     let place = places.take(branch);
-    match row_of(rows, place, branch) {
-        Some(at) => end_at(rows, at, branch),
+    match place_of(rows, place, branch) {
+        Some(place) => end_at(rows, place, branch),
         None => None,
     }
 }
@@ -74,16 +76,16 @@ pub fn finish(rows: &mut VecDeque<Row>, places: &mut Places, branch: Branch) -> 
 /// behind the askers.
 #[tactic(auto, using(crate::proofs::Ending::orphaned_distinct, crate::proofs::Ending::dropped_left, crate::proofs::Ending::dropped_finals))]
 pub fn drop_link(
-    rows: &mut VecDeque<Row>,
+    rows: &mut BTreeMap<u64, Row>,
     places: &mut Places,
     link: LinkNo,
     numbers: &[u32],
     askers: &mut Vec<Asker>,
 )
-    requires sound { IsSound rows.old.items }
+    requires sound { IsSound (values rows.old) }
     requires room { vec_len askers.old + length numbers.now ≤ vec_capacity askers.old }
-    ensures rows { rows.new.items ≡ all_finished (all_orphaned link rows.old.items) (map (λ n. branch link n) numbers.now) }
-    ensures askers { askers.new.items ≡ askers.old.items ++ finals (all_orphaned link rows.old.items) (map (λ n. branch link n) numbers.now) }
+    ensures rows { values rows.new ≡ all_finished (all_orphaned link (values rows.old)) (map (λ n. branch link n) numbers.now) }
+    ensures askers { askers.new.items ≡ askers.old.items ++ finals (all_orphaned link (values rows.old)) (map (λ n. branch link n) numbers.now) }
 {
     orphan_all(rows, link);
     end_all(rows, places, link, numbers, askers);
@@ -91,34 +93,29 @@ pub fn drop_link(
     places.take_all(link, numbers);
 }
 
-fn orphan_all(rows: &mut VecDeque<Row>, link: LinkNo)
-    ensures { rows.new.items ≡ all_orphaned link rows.old.items }
-{
-    orphan(rows.make_contiguous(), link);
-}
-
 // What a link asked has no asker any more.
-fn orphan(rows: &mut [Row], link: LinkNo)
-    ensures { rows.new ≡ all_orphaned link rows.old }
+fn orphan_all(rows: &mut BTreeMap<u64, Row>, link: LinkNo)
+    ensures { values rows.new ≡ all_orphaned link (values rows.old) }
 {
-    for row in rows.iter_mut() {
+    rows.retain(|_, row| {
         row.orphan(link);
-    }
+        true
+    });
 }
 
 // Ends the branches of a link that have these numbers, one after another, and puts those who get a final behind the askers. Rows of which no
 // branch is left stay.
 fn end_all(
-    rows: &mut VecDeque<Row>,
+    rows: &mut BTreeMap<u64, Row>,
     places: &Places,
     link: LinkNo,
     numbers: &[u32],
     askers: &mut Vec<Asker>,
 )
-    requires distinct { are_distinct (branches rows.old.items) ≡ true }
+    requires distinct { are_distinct (branches (values rows.old)) ≡ true }
     requires room { vec_len askers.old + length numbers.now ≤ vec_capacity askers.old }
-    ensures rows { rows.new.items ≡ all_ended rows.old.items (map (λ n. branch link n) numbers.now) }
-    ensures askers { askers.new.items ≡ askers.old.items ++ finals_among rows.old.items (map (λ n. branch link n) numbers.now) }
+    ensures rows { values rows.new ≡ all_ended (values rows.old) (map (λ n. branch link n) numbers.now) }
+    ensures askers { askers.new.items ≡ askers.old.items ++ finals_among (values rows.old) (map (λ n. branch link n) numbers.now) }
 {
     for number in numbers {
         let branch = Branch {
@@ -132,28 +129,35 @@ fn end_all(
 
 // Ends a branch in the row that has it, which stays: who gets the final, where there is one.
 #[tactic(auto, using(crate::proofs::Ending::none_ended, zr_pend_spec::proofs::OneEnd::none_final))]
-fn end_in(rows: &mut VecDeque<Row>, place: Option<u64>, branch: Branch) -> Option<Asker>
-    requires distinct { are_distinct (branches rows.old.items) ≡ true }
-    ensures asker { result ≡ final_to rows.old.items branch }
-    ensures rows { rows.new.items ≡ ended rows.old.items branch }
+fn end_in(rows: &mut BTreeMap<u64, Row>, place: Option<u64>, branch: Branch) -> Option<Asker>
+    requires distinct { are_distinct (branches (values rows.old)) ≡ true }
+    ensures asker { result ≡ final_to (values rows.old) branch }
+    ensures rows { values rows.new ≡ ended (values rows.old) branch }
 {
-    match row_of(rows, place, branch) {
-        Some(at) => end_there(rows, at, branch),
+    match place_of(rows, place, branch) {
+        Some(place) => end_there(rows, place, branch),
         None => None,
     }
 }
 
-#[tactic(auto, using(crate::proofs::Ending::ended_at, crate::proofs::Ending::final_at))]
-fn end_there(rows: &mut VecDeque<Row>, at: usize, branch: Branch) -> Option<Asker>
-    requires distinct { are_distinct (branches rows.old.items) ≡ true }
-    requires within { at < length rows.old.items }
-    requires has { (d : Row) → has branch (slice_index_or rows.old.items at d) ≡ true }
-    ensures asker { result ≡ final_to rows.old.items branch }
-    ensures rows { rows.new.items ≡ ended rows.old.items branch }
+fn end_there(rows: &mut BTreeMap<u64, Row>, place: u64, branch: Branch) -> Option<Asker>
+    requires distinct { are_distinct (branches (values rows.old)) ≡ true }
+    requires has { IsSomeAnd (get nat_cmp rows.old place) (λ r. has branch r ≡ true) }
+    ensures asker { result ≡ final_to (values rows.old) branch }
+    ensures rows { values rows.new ≡ ended (values rows.old) branch }
 {
-    let asker = final_of(&rows[at], branch);
-    rows[at].end(branch);
+    let asker = final_at(rows, place, branch);
+    end_in_row(rows, place, branch);
     asker
+}
+
+fn final_at(rows: &BTreeMap<u64, Row>, place: u64, branch: Branch) -> Option<Asker>
+    ensures { (r : Row) → get nat_cmp rows.now place ≡ Some r → result ≡ (if is_last branch r then r.asker else None) }
+{
+    match rows.get(&place) {
+        Some(row) => final_of(row, branch),
+        None => None,
+    }
 }
 
 // Who gets a final when a branch of a row ends.
@@ -168,67 +172,85 @@ fn final_of(row: &Row, branch: Branch) -> Option<Asker>
 }
 
 // Rows of which no branch is left go.
-fn leave(rows: &mut VecDeque<Row>)
-    ensures { rows.new.items ≡ left rows.old.items }
+fn leave(rows: &mut BTreeMap<u64, Row>)
+    ensures { values rows.new ≡ left (values rows.old) }
 {
-    rows.retain(|row| !row.is_done());
+    rows.retain(|_, row| !row.is_done());
 }
 
-// The place of the row that has a branch: where it stands by its place in the order in which rows began, or else where it is found.
-fn row_of(rows: &VecDeque<Row>, place: Option<u64>, branch: Branch) -> Option<usize>
-    ensures none { result ≡ None → is_pending branch rows.now.items ≡ false }
-    ensures within { IfSome result (λ at. at < length rows.now.items) }
-    ensures has { (d : Row) → IfSome result (λ at. has branch (slice_index_or rows.now.items at d) ≡ true) }
+// The place of the row that has a branch: this one, or else where it is found.
+fn place_of(rows: &BTreeMap<u64, Row>, place: Option<u64>, branch: Branch) -> Option<u64>
+    ensures none { result ≡ None → is_pending branch (values rows.now) ≡ false }
+    ensures has { IfSome result (λ place. IsSomeAnd (get nat_cmp rows.now place) (λ r. has branch r ≡ true)) }
 {
-    match row_at(rows, place, branch) {
-        Some(at) => Some(at),
-        None => search(rows, branch),
+    match place {
+        Some(place) if stands_at(rows, place, branch) => Some(place),
+        _ => search(rows, branch),
     }
 }
 
-// The place of the row with this place in the order in which rows began, where it has a branch.
-fn row_at(rows: &VecDeque<Row>, place: Option<u64>, branch: Branch) -> Option<usize>
-    ensures within { IfSome result (λ at. at < length rows.now.items) }
-    ensures has { (d : Row) → IfSome result (λ at. has branch (slice_index_or rows.now.items at d) ≡ true) }
+fn stands_at(rows: &BTreeMap<u64, Row>, place: u64, branch: Branch) -> bool
+    ensures { IsTrue result → IsSomeAnd (get nat_cmp rows.now place) (λ r. has branch r ≡ true) }
 {
-    let at = index_of(rows, place?);
-    if at < rows.len() && rows[at].has(branch) {
-        return Some(at);
+    match rows.get(&place) {
+        Some(row) => row.has(branch),
+        None => false,
     }
-    None
 }
 
-fn index_of(rows: &VecDeque<Row>, place: u64) -> usize {
-    rows.partition_point(|row| row.place() < place)
-}
-
-fn search(rows: &VecDeque<Row>, branch: Branch) -> Option<usize>
-    ensures none { result ≡ None → is_pending branch rows.now.items ≡ false }
-    ensures within { IfSome result (λ at. at < length rows.now.items) }
-    ensures has { (d : Row) → IfSome result (λ at. has branch (slice_index_or rows.now.items at d) ≡ true) }
+fn search(rows: &BTreeMap<u64, Row>, branch: Branch) -> Option<u64>
+    ensures none { result ≡ None → is_pending branch (values rows.now) ≡ false }
+    ensures has { IfSome result (λ place. IsSomeAnd (get nat_cmp rows.now place) (λ r. has branch r ≡ true)) }
 {
-    for at in 0..rows.len() {
-        if rows[at].has(branch) {
-            return Some(at);
+    for (place, row) in rows {
+        if row.has(branch) {
+            return Some(*place);
         }
     }
     None
 }
 
-// Ends a branch in the row that has it: who gets the final, where there is one.
-#[tactic(auto, using(zr_pend_spec::proofs::OneEnd::last_ends, zr_pend_spec::proofs::OneEnd::last_final, zr_pend_spec::proofs::OneEnd::other_ends, zr_pend_spec::proofs::OneEnd::other_final))]
-fn end_at(rows: &mut VecDeque<Row>, at: usize, branch: Branch) -> Option<Asker>
-    requires sound { IsSound rows.old.items }
-    requires within { at < length rows.old.items }
-    requires has { (d : Row) → has branch (slice_index_or rows.old.items at d) ≡ true }
-    ensures asker { result ≡ final_to rows.old.items branch }
-    ensures rows { rows.new.items ≡ finished rows.old.items branch }
+// Ends a branch in the row at this place, which has it: who gets the final, where there is one.
+fn end_at(rows: &mut BTreeMap<u64, Row>, place: u64, branch: Branch) -> Option<Asker>
+    requires sound { IsSound (values rows.old) }
+    requires has { IsSomeAnd (get nat_cmp rows.old place) (λ r. has branch r ≡ true) }
+    ensures asker { result ≡ final_to (values rows.old) branch }
+    ensures rows { values rows.new ≡ finished (values rows.old) branch }
 {
-    if rows[at].is_last(branch) {
-        return rows.remove(at)?.asker();
+    if is_last_at(rows, place, branch) {
+        return take_row(rows, place);
     }
-    rows[at].end(branch);
+    end_in_row(rows, place, branch);
     None
+}
+
+// The row at a place goes: who asked it.
+fn take_row(rows: &mut BTreeMap<u64, Row>, place: u64) -> Option<Asker>
+    ensures asker { result ≡ option_and_then (λ r. r.asker) (get nat_cmp rows.old place) }
+    ensures rows { rows.new.entries ≡ remove_entry (is_at (nat_cmp place)) rows.old.entries }
+{
+    match rows.remove(&place) {
+        Some(row) => row.asker(),
+        None => None,
+    }
+}
+
+fn is_last_at(rows: &BTreeMap<u64, Row>, place: u64, branch: Branch) -> bool
+    ensures { result ≡ option_map_or (is_last branch) (get nat_cmp rows.now place) false }
+{
+    match rows.get(&place) {
+        Some(row) => row.is_last(branch),
+        None => false,
+    }
+}
+
+// Ends a branch of the row at this place.
+fn end_in_row(rows: &mut BTreeMap<u64, Row>, place: u64, branch: Branch)
+    ensures { (r : Row) → get nat_cmp rows.old place ≡ Some r → rows.new.entries ≡ set_value (is_at (nat_cmp place)) rows.old.entries (without branch r) }
+{
+    if let Some(row) = rows.get_mut(&place) {
+        row.end(branch);
+    }
 }
 
 // There is room for one more.

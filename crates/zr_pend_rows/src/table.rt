@@ -5,22 +5,24 @@ ghost use Rattle.std.specs.List.{list_any};
 ghost use Rattle.std.specs.Vec.{vec_len, vec_capacity};
 ghost use Rattle.zr_pend_spec.specs.Pending.{IsSound, ascending, asked, asker_of, begun, count, differ, dropped, final_to, finals_of_drop, finished, free_number, is_full, is_pending, numbers_on, opened};
 
-use crate::askers::{as_branch, askers_in, enter, take_asker, take_askers};
+use crate::askers::{as_branch, askers_in, enter, take_asker, take_askers, withdraw};
 use crate::places::Places;
 use crate::row::{Row, copies_of};
-use crate::rows::{asker_of, drop_link, finish, numbers_in, numbers_of, put};
+use crate::rows::{asker_of, drop_link, finish, numbers_in, numbers_of};
 use std::alloc::{AllocError, Global};
-use std::collections::VecDeque;
+use std::collections::BTreeMap;
 use std::marker::Model;
 use zr_id::link::LinkNo;
 use zr_pend_numbers::numbers::Numbers;
 use zr_pend_spec::branch::{Asker, Branch};
+use zr_places::{next_place, put_last};
 
 /// The pending requests of one router, in the order in which they began. Beside the rows it has which numbers are pending on each link, under
 /// which numbers each link has asked, and where the row of each branch stands.
 #[derive(Drop)]
 pub struct Table {
-    rows: VecDeque<Row>,
+    alloc: Global,
+    rows: BTreeMap<u64, Row>,
     pending: Numbers,
     asked: Numbers,
     places: Places,
@@ -28,15 +30,16 @@ pub struct Table {
 
 impl Model for Table {
     ghost use Rattle.std.specs.Prelude.{List};
+    ghost use Rattle.std.specs.BTreeMap.{values};
     ghost use Rattle.zr_pend_spec.specs.Pending.{IsSound};
     ghost use Rattle.zr_pend_spec.specs.Row.{RowState};
     ghost use Rattle.zr_pend_rows.specs.Tied.{AreAsked, ArePending};
 
     ghost Value = { List RowState };
 
-    ghost view = { λ t. t.rows.items };
+    ghost view = { λ t. values t.rows };
 
-    ghost invariant = { λ t. IsSound t.rows.items × ArePending t.pending t.rows.items × AreAsked t.asked t.rows.items };
+    ghost invariant = { λ t. IsSound (values t.rows) × ArePending t.pending (values t.rows) × AreAsked t.asked (values t.rows) };
 }
 
 impl Table {
@@ -45,7 +48,8 @@ impl Table {
         ensures { result ≡ [] }
     {
         Table {
-            rows: VecDeque::new(alloc),
+            alloc,
+            rows: BTreeMap::new(alloc),
             pending: Numbers::new(alloc),
             asked: Numbers::new(alloc),
             places: Places::new(alloc),
@@ -56,17 +60,20 @@ impl Table {
     pub fn copy(&self, alloc: Global) -> Result<Table, AllocError>
         ensures { IfOk result (λ t. t ≡ self.now) }
     {
+        let rows = copies_of(alloc, &self.rows)?;
+        let places = Places::of(alloc, &rows)?;
         Ok(Table {
-            rows: copies_of(alloc, &self.rows)?,
+            alloc,
+            rows,
             pending: numbers_in(alloc, &self.rows)?,
             asked: askers_in(alloc, &self.rows)?,
-            places: self.places.copy(alloc, &self.rows)?,
+            places,
         })
     }
 
     /// Where its memory is from.
     pub fn allocator(&self) -> Global {
-        *self.rows.allocator()
+        self.alloc
     }
 
     /// Whether a row has this asker.
@@ -105,7 +112,7 @@ impl Table {
     pub fn numbers_on(&self, link: LinkNo) -> Result<Vec<u32>, AllocError>
         ensures { IfOk result (λ ns. ns.items ≡ ascending (numbers_on link self.now)) }
     {
-        self.pending.all_on(*self.rows.allocator(), link)
+        self.pending.all_on(self.alloc, link)
     }
 
     /// A request goes to links of which none has every number pending: the number that it has on each, in their order.
@@ -118,11 +125,11 @@ impl Table {
         ensures rows { OnOk result (self.new ≡ begun self.old asker to.now) }
         ensures unchanged { OnErr result (self.new ≡ self.old) }
     {
-        let alloc = *self.rows.allocator();
+        let alloc = self.alloc;
         let branches = self.open(alloc, to)?;
         let numbers = numbers_of(alloc, branches.as_slice())?;
-        let place = self.places.put(branches.as_slice())?;
-        self.rows.reserve(1)?;
+        let place = next_place(&self.rows)?;
+        self.places.put(place, branches.as_slice())?;
         enter(
             &mut self.pending,
             &mut self.asked,
@@ -130,8 +137,13 @@ impl Table {
             asker,
             branches.as_slice(),
         )?;
-        put(&mut self.rows, Row::new(place, asker, branches));
-        Ok(numbers)
+        match put_last(&mut self.rows, place, Row::new(asker, branches)) {
+            Ok(()) => Ok(numbers),
+            Err(row) => {
+                withdraw(&mut self.pending, &mut self.asked, asker, row.branches());
+                Err(AllocError)
+            }
+        }
     }
 
     /// Ends a branch: who gets the final, where there is one.

@@ -127,30 +127,27 @@ impl Session {
         ensures idle { Idles self.old.state result self.old self.new }
         ensures quiet { is_running self.old.state ≡ false → Keeps out.old out.new }
     {
-        let mut phase = match mem::replace(&mut self.state, State::Spent) {
+        let phase = match &mut self.state {
             State::Running(phase) => phase,
-            State::Ended { how, owed } => {
-                self.state = State::Ended { how, owed };
-                return Ok(how.fate());
-            }
+            State::Ended { how, .. } => return Ok(how.fate()),
             State::Spent => return Err(AllocError),
         };
         self.heard = heard_with(piece, self.heard, now);
         match take_piece(
             self.alloc,
             &self.opening,
-            &mut phase,
+            phase,
             &mut self.kept,
             piece,
             out,
             &mut self.cause,
         ) {
-            Ok(()) => {
-                self.state = State::Running(phase);
-                Ok(Fate::Going)
+            Ok(()) => Ok(Fate::Going),
+            Err(ReadStop::Ended(how)) => self.stop(how, &mut out.bytes),
+            Err(ReadStop::NoMemory) => {
+                self.state = State::Spent;
+                Err(AllocError)
             }
-            Err(ReadStop::Ended(how)) => self.end(how, phase, &mut out.bytes),
-            Err(ReadStop::NoMemory) => Err(AllocError),
         }
     }
 
@@ -202,6 +199,19 @@ impl Session {
             return Ok(Fate::Going);
         }
         self.end(End::Closed(Reason::Expired), phase, out)
+    }
+
+    /// Ends a session that goes on, as `end`.
+    fn stop(&mut self, how: End, out: &mut Vec<u8>) -> Result<Fate, AllocError>
+        requires { is_running self.old.state ≡ true }
+        ensures ok { OnOk result ((self.new ≡ ended self.old how (owed_by self.old.state)) × (out.new.items ≡ out.old.items ++ close_of how)) }
+        ensures fate { IfOk result (λ fate. fate ≡ fate_of how) }
+        ensures memory { OnErr result ((self.new.state ≡ State.Spent) × (self.new.heard ≡ self.old.heard) × (out.new.items ≡ out.old.items)) }
+    {
+        match mem::replace(&mut self.state, State::Spent) {
+            State::Running(phase) => self.end(how, phase, out),
+            State::Ended { .. } | State::Spent => unreachable!(),
+        }
     }
 
     /// Ends a session, with a CLOSE for a reason of this end.

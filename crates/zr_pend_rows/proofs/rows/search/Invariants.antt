@@ -1,8 +1,9 @@
 -- No row so far has the branch.
-use Rattle.std.proofs.Common.{◌≡◌, drop}
+use Rattle.std.proofs.Common.{◌≡◌}
+use Rattle.std.specs.Map.{values_of}
 use Rattle.zr_pend_spec.specs.Pending.{is_pending}
 use Rattle.zr_pend_rows.proofs.rows.search.Given as goal
 
-abbrev pub invariant-loop-at : goal.invariant-loop-at
-invariant-loop-at l =
-    is_pending l.branch (drop l.at l.rows.items) ≡ is_pending l.branch l.rows.items
+abbrev pub invariant-loop-place : goal.invariant-loop-place
+invariant-loop-place l =
+    is_pending l.branch (values_of l.place-iterator) ≡ is_pending l.branch (values_of l.rows.entries)
