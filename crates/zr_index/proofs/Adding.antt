@@ -4,7 +4,7 @@ use Rattle.std.specs.List.{flat_map, sum_by}
 use Rattle.std.proofs.lemmas.List.{at_drop_more}
 use Rattle.std.proofs.lemmas.List.Concat.{flat_map-cons}
 use Rattle.std.proofs.lemmas.List.Sums.{sum_by-append}
-use Rattle.zr_index.specs.Pairs.{Pairs, AreSame}
+use Rattle.zr_index.specs.Pairs.{Pairs}
 
 module _ {X V : Type 0} (g : X → Pairs V) (f : List (List ℕ) × V → ℕ) where
   -- what one element adds is left no more

@@ -1,5 +1,5 @@
 -- What a level holds once one pair more, or one less, stands in it.
-use Rattle.std.proofs.Common.{◌≡◌, ℕ, ◌+◌, ◌≤◌, Bool, true, false, cond, not, ◌&&◌, List, [], ◌∷◌, ◌++◌, Some, None, length, nat_lt, refl, sym, ap, ◌∙◌, arith}
+use Rattle.std.proofs.Common.{◌≡◌, ℕ, ◌+◌, ◌≤◌, Bool, true, false, cond, not, ◌&&◌, List, [], ◌∷◌, Some, None, length, nat_lt, refl, sym, ap, ◌∙◌, arith}
 use Rattle.std.specs.List.{sum_by, list_any, position, position_or_len}
 use Rattle.std.specs.Str.{bytes_eq}
 use Rattle.std.specs.Cmp.Lexicographic.{pointwise}
@@ -7,7 +7,7 @@ use Rattle.std.proofs.lemmas.Bool.{or_parts}
 use Rattle.std.proofs.lemmas.Bool.Decides.{nat_tests}
 use Rattle.std.proofs.lemmas.List.Elements.{All-from_get_or}
 use Rattle.std.proofs.lemmas.List.Folds.{list_any_none}
-use Rattle.std.proofs.lemmas.List.Sums.{sum_by-cons, sum_by_push, fails_before_first}
+use Rattle.std.proofs.lemmas.List.Sums.{sum_by-cons, fails_before_first}
 use Rattle.zr_key.proofs.Spelling.{same_bytes}
 use Rattle.zr_key.specs.Key.{is_plain_text}
 use Rattle.zr_index.specs.Pairs.{pairs, weigh_below, is_of, one}
@@ -16,15 +16,8 @@ use Rattle.zr_index.specs.declared.node.Node.TheOpen.{Node-F}
 use Rattle.zr_index.proofs.Levels.{guarded, level}
 
 module _ {V : Type 0} (f : List (List ℕ) × V → ℕ) (x y : Node-F V (Node V)) where
-  pub grow_values : (v : V) → y.values.items ≡ x.values.items ++ v ∷ [] → y.plain.entries ≡ x.plain.entries → y.wild.entries ≡ x.wild.entries → level f y ≡ f ([], v) + level f x
-  grow_values v a b c =
-      omega (
-        arith,
-        ap (sum_by (λ w. f ([], w))) a,
-        ap (weigh_below (λ k. guarded true f k.items)) b,
-        ap (weigh_below (λ k. guarded false f k.items)) c,
-        sum_by_push (λ w. f ([], w)) x.values.items v,
-      )
+  pub grow_values : (v : V) → sum_by (λ w. f ([], w)) y.values.items ≡ f ([], v) + sum_by (λ w. f ([], w)) x.values.items → y.plain.entries ≡ x.plain.entries → y.wild.entries ≡ x.wild.entries → level f y ≡ f ([], v) + level f x
+  grow_values v a b c = omega (arith, a, ap (weigh_below (λ k. guarded true f k.items)) b, ap (weigh_below (λ k. guarded false f k.items)) c)
 
   pub grow_plain : (c : List ℕ) (path : List (List ℕ)) (v : V) → is_plain_text c ≡ true → y.values.items ≡ x.values.items → y.wild.entries ≡ x.wild.entries
       → weigh_below (λ k. guarded true f k.items) y.plain.entries ≡ guarded true f c (path, v) + weigh_below (λ k. guarded true f k.items) x.plain.entries → level f y ≡ f (c ∷ path, v) + level f x

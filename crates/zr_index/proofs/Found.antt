@@ -155,12 +155,6 @@ finds_level {V = V} cmp above key n v =
     || (list_any-append t (below (λ k. k.items) true (map (λ e. (e.0, pairs e.1)) x.plain.entries)) (below (λ k. k.items) false (map (λ e. (e.0, pairs e.1)) x.wild.entries))
     ∙ (λ j. any_below (λ k. k.items) t true x.plain.entries j || any_below (λ k. k.items) t false x.wild.entries j)) i)
 
--- a value more is put, of those that are still to be put
-pub put_step : (b o r : Bool) → (cond b true o || r) ≡ (o || (b || r))
-put_step true true r = refl
-put_step true false r = refl
-put_step false o r = refl
-
 -- what is found from the root on is what meets the key
 pub finds_meeting : {V : Type 0} (cmp : V → V → Ordering) (key : List ℕ) (ps : Pairs V) (v : V) → finds cmp [] key ps v ≡ list_any (λ p. meets_key key p.0 && is_eq (cmp p.1 v)) ps
 finds_meeting cmp key [] v = refl

@@ -1,4 +1,5 @@
 pub mod Weights
+pub mod Kept
 pub mod Levels
 pub mod Tests
 pub mod Found

@@ -19,6 +19,10 @@ abbrev pub onto : List Chunk → List (List ℕ) → List Chunk
 onto above [] = above
 onto above (chunk ∷ path) = onto (chunk_of chunk ∷ above) path
 
+-- whether one of some values is equal to a value
+abbrev pub is_among : {V : Type 0} → (V → V → Ordering) → List V → V → Bool
+is_among cmp vs v = list_any (λ w. is_eq (cmp w v)) vs
+
 -- whether a path behind some chunks meets a key: their place in the table
 abbrev pub is_met : List Chunk → List ℕ → List (List ℕ) → Bool
 is_met above key path = table (chunk_signs true) (onto above path) (onto [] (chunks key))

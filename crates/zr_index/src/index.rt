@@ -1,13 +1,16 @@
 //! `Index`: pairs of a key expression and a value.
 
 ghost use Rattle.std.specs.Prelude.{◌≡◌, ◌∷◌, [], ◌++◌, List, OnOk, IfErr};
+ghost use Rattle.std.specs.List.{list_any};
+ghost use Rattle.std.specs.List.Sorted.{IsStrictlySortedBy};
+ghost use Rattle.std.specs.Ordering.{is_eq};
 ghost use Rattle.zr_key.specs.Key.{chunks};
 ghost use Rattle.zr_index.specs.Pairs.{AreSame, TakesOne};
 ghost use Rattle.zr_index.specs.Meeting.{held, AreMeeting};
+ghost use Rattle.zr_index.specs.Walk.{is_among};
 
 use crate::node::Node;
 use std::alloc::{AllocError, Global};
-use std::collections::BTreeSet;
 use zr_key::key::KeyExpr;
 use zr_match::row::Row;
 
@@ -52,20 +55,20 @@ impl<V: Drop + Copy + Ord> Index<V> {
     pub fn meeting(&self, key: &KeyExpr, out: &mut Vec<V>) -> Result<(), AllocError>
         ensures { OnOk result ((found : List V) × (out.new.items ≡ out.old.items ++ found) × AreMeeting V.cmp key.now (held self.now) found) }
     {
-        let mut found = BTreeSet::new(self.alloc);
+        let mut found = Vec::new(self.alloc);
         let row = Row::first(self.alloc, key)?;
         self.root.gather(self.alloc, key, &row, &mut found)?;
-        // Read, so that the proof knows that the values ascend.
-        let _ascends = found.len();
-        put_keys(&found, out)
+        put_in_order(&mut found)?;
+        out.extend_from_slice(&found)
     }
 }
 
-fn put_keys<V: Drop + Copy + Ord>(found: &BTreeSet<V>, out: &mut Vec<V>) -> Result<(), AllocError>
-    ensures { OnOk result (out.new.items ≡ out.old.items ++ found.now.keys) }
+// Ascending, each once. What comes from one place of the tree is in order already, which a stable sort sees by a look at each value.
+fn put_in_order<V: Drop + Copy + Ord>(found: &mut Vec<V>) -> Result<(), AllocError>
+    ensures ascend { OnOk result (IsStrictlySortedBy V.cmp found.new.items) }
+    ensures same { OnOk result ((v : V) → list_any (λ w. is_eq (V.cmp v w)) found.new.items ≡ is_among V.cmp found.old.items v) }
 {
-    for value in found {
-        out.push(*value)?;
-    }
+    found.sort()?;
+    found.dedup();
     Ok(())
 }

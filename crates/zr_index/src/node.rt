@@ -1,19 +1,17 @@
 //! `Node`: a tree of chunks.
 
-ghost use Rattle.std.specs.Prelude.{◌≡◌, ◌∷◌, [], ℕ, ◌+◌, ◌||◌, List, length, true, false, OnOk, IfErr, IfOk};
-ghost use Rattle.std.specs.List.{sum_by, list_any, position};
-ghost use Rattle.std.specs.Ordering.{is_eq};
+ghost use Rattle.std.specs.Prelude.{◌≡◌, ◌∷◌, [], ℕ, ◌+◌, ◌≤◌, ◌||◌, List, length, true, false, OnOk, IfErr, IfOk};
+ghost use Rattle.std.specs.List.{sum_by, position};
 ghost use Rattle.std.specs.Option.{option_copied};
-ghost use Rattle.std.specs.BTreeSet.{contains};
 ghost use Rattle.zr_lists.specs.Cut.{parts};
 ghost use Rattle.zr_key.specs.Expression.{Chunk};
 ghost use Rattle.zr_key.specs.Key.{chunks};
 ghost use Rattle.zr_match.specs.Row.{IsRowFor, IsRowBehind};
 ghost use Rattle.zr_index.specs.Pairs.{pairs, AreSame, weigh_below, TakesOne, TakesBelow, TakesValue};
-ghost use Rattle.zr_index.specs.Walk.{finds, finds_plain, finds_wild, finds_at, seeks_plain};
+ghost use Rattle.zr_index.specs.Walk.{is_among, finds, finds_plain, finds_wild, finds_at, seeks_plain};
 
 use std::alloc::{AllocError, Global};
-use std::collections::{BTreeMap, BTreeSet};
+use std::collections::BTreeMap;
 use zr_key::key::KeyExpr;
 use zr_lists::cut;
 use zr_match::row::{Row, is_any_chunks, is_plain};
@@ -47,12 +45,7 @@ impl<V: Drop + Copy + Ord> Node<V> {
         ensures refused { IfErr result (λ back. (back ≡ value) × AreSame (pairs self.new) (pairs self.old)) }
     {
         match rest {
-            None => {
-                if self.values.push(value).is_err() {
-                    return Err(value);
-                }
-                Ok(())
-            }
+            None => add_value(&mut self.values, value),
             Some(text) => {
                 let (chunk, more) = cut(text, b'/');
                 if is_plain(chunk) {
@@ -88,17 +81,17 @@ impl<V: Drop + Copy + Ord> Node<V> {
         self.values.is_empty() && self.plain.is_empty() && self.wild.is_empty()
     }
 
-    /// Puts the values of the pairs that meet a key, by the row of the chunks in front of the tree.
+    /// Appends the values of the pairs that meet a key, by the row of the chunks in front of the tree. They come in no order, and may come twice.
     #[cycle(gathering)]
     pub fn gather(
         &self,
         alloc: Global,
         key: &KeyExpr,
         row: &Row,
-        out: &mut BTreeSet<V>,
+        out: &mut Vec<V>,
     ) -> Result<(), AllocError>
         requires { IsRowFor key.now row.now }
-        ensures { OnOk result ((above : List Chunk) → IsRowBehind above key.now row.now → (v : V) → contains V.cmp out.new v ≡ (contains V.cmp out.old v || finds V.cmp above key.now (pairs self.now) v)) }
+        ensures { OnOk result ((above : List Chunk) → IsRowBehind above key.now row.now → (v : V) → is_among V.cmp out.new.items v ≡ (is_among V.cmp out.old.items v || finds V.cmp above key.now (pairs self.now) v)) }
     {
         if row.is_blank() {
             return Ok(());
@@ -121,11 +114,11 @@ impl<V: Drop + Copy + Ord> Node<V> {
         alloc: Global,
         key: &KeyExpr,
         row: &Row,
-        out: &mut BTreeSet<V>,
+        out: &mut Vec<V>,
     ) -> Result<(), AllocError>
         requires row { IsRowFor key.now row.now }
         requires sought { seeks_plain row.now.marks.items 0 (chunks key.now) ≡ true }
-        ensures { OnOk result ((above : List Chunk) → IsRowBehind above key.now row.now → (v : V) → contains V.cmp out.new v ≡ (contains V.cmp out.old v || finds_plain V.cmp above key.now self.now v)) }
+        ensures { OnOk result ((above : List Chunk) → IsRowBehind above key.now row.now → (v : V) → is_among V.cmp out.new.items v ≡ (is_among V.cmp out.old.items v || finds_plain V.cmp above key.now self.now v)) }
     {
         // Read, so that the proof knows that the chunks ascend.
         let _ascends = self.plain.len();
@@ -149,10 +142,10 @@ impl<V: Drop + Copy + Ord> Node<V> {
         chunk: &[u8],
         key: &KeyExpr,
         row: &Row,
-        out: &mut BTreeSet<V>,
+        out: &mut Vec<V>,
     ) -> Result<(), AllocError>
         requires { IsRowFor key.now row.now }
-        ensures { OnOk result ((above : List Chunk) → IsRowBehind above key.now row.now → (v : V) → contains V.cmp out.new v ≡ (contains V.cmp out.old v || finds_at V.cmp above key.now self.now chunk.now v)) }
+        ensures { OnOk result ((above : List Chunk) → IsRowBehind above key.now row.now → (v : V) → is_among V.cmp out.new.items v ≡ (is_among V.cmp out.old.items v || finds_at V.cmp above key.now self.now chunk.now v)) }
     {
         match self.plain.get(chunk) {
             None => Ok(()),
@@ -169,10 +162,10 @@ impl<V: Drop + Copy + Ord> Node<V> {
         alloc: Global,
         key: &KeyExpr,
         row: &Row,
-        out: &mut BTreeSet<V>,
+        out: &mut Vec<V>,
     ) -> Result<(), AllocError>
         requires { IsRowFor key.now row.now }
-        ensures { OnOk result ((above : List Chunk) → IsRowBehind above key.now row.now → (v : V) → contains V.cmp out.new v ≡ (contains V.cmp out.old v || finds_plain V.cmp above key.now self.now v)) }
+        ensures { OnOk result ((above : List Chunk) → IsRowBehind above key.now row.now → (v : V) → is_among V.cmp out.new.items v ≡ (is_among V.cmp out.old.items v || finds_plain V.cmp above key.now self.now v)) }
     {
         for (chunk, child) in &self.plain {
             if is_plain(chunk) {
@@ -189,10 +182,10 @@ impl<V: Drop + Copy + Ord> Node<V> {
         alloc: Global,
         key: &KeyExpr,
         row: &Row,
-        out: &mut BTreeSet<V>,
+        out: &mut Vec<V>,
     ) -> Result<(), AllocError>
         requires { IsRowFor key.now row.now }
-        ensures { OnOk result ((above : List Chunk) → IsRowBehind above key.now row.now → (v : V) → contains V.cmp out.new v ≡ (contains V.cmp out.old v || finds_wild V.cmp above key.now self.now v)) }
+        ensures { OnOk result ((above : List Chunk) → IsRowBehind above key.now row.now → (v : V) → is_among V.cmp out.new.items v ≡ (is_among V.cmp out.old.items v || finds_wild V.cmp above key.now self.now v)) }
     {
         for (chunk, child) in &self.wild {
             if !is_plain(chunk) {
@@ -250,13 +243,35 @@ fn remove_below<V: Drop + Copy + Ord>(
     was_there
 }
 
+// One value more, in order among the others, so that `meeting` finds those of one place in order. No proof rests on that order.
+fn add_value<V: Drop + Copy + Ord>(values: &mut Vec<V>, value: V) -> Result<(), V>
+    ensures added { OnOk result ((f : V → ℕ) → sum_by f values.new.items ≡ f value + sum_by f values.old.items) }
+    ensures refused { IfErr result (λ back. (back ≡ value) × (values.new.items ≡ values.old.items)) }
+{
+    let place = place_for(values, &value);
+    if values.insert(place, value).is_err() {
+        return Err(value);
+    }
+    Ok(())
+}
+
+fn place_for<V: Drop + Copy + Ord>(values: &[V], value: &V) -> usize
+    ensures { result ≤ length values.now }
+{
+    match values.binary_search(value) {
+        Ok(place) => place,
+        Err(place) => place,
+    }
+}
+
+// One value less. The others keep their order.
 fn remove_value<V: Drop + Copy + Ord>(values: &mut Vec<V>, value: &V) -> bool
     ensures { TakesValue V.eq value.now values.old.items values.new.items result }
 {
     let Some(place) = place_of(values, value) else {
         return false;
     };
-    values.swap_remove(place);
+    values.remove(place);
     true
 }
 
@@ -266,13 +281,10 @@ fn place_of<V: Drop + Copy + Ord>(values: &[V], value: &V) -> Option<usize>
     values.iter().position(|v| v == value)
 }
 
-fn put_all<V: Drop + Copy + Ord>(values: &[V], out: &mut BTreeSet<V>) -> Result<(), AllocError>
-    ensures { OnOk result ((v : V) → contains V.cmp out.new v ≡ (contains V.cmp out.old v || list_any (λ w. is_eq (V.cmp w v)) values.now)) }
+fn put_all<V: Drop + Copy + Ord>(values: &[V], out: &mut Vec<V>) -> Result<(), AllocError>
+    ensures { OnOk result ((v : V) → is_among V.cmp out.new.items v ≡ (is_among V.cmp out.old.items v || is_among V.cmp values.now v)) }
 {
-    for value in values {
-        out.insert(*value)?;
-    }
-    Ok(())
+    out.extend_from_slice(values)
 }
 
 // Whether the marked chunks of a key are plain, and no other is `**`.

@@ -1,4 +1,4 @@
-use Rattle.std.proofs.Common.{◌≡◌, ◌∷◌, ◌∙◌, None, true, false, refl, sym, ap, arith}
+use Rattle.std.proofs.Common.{◌≡◌, [], ◌∷◌, ◌∙◌, None, true, false, refl, sym, ap, arith}
 use Rattle.std.specs.List.{sum_by}
 use Rattle.std.specs.Option.{option_copied}
 use Rattle.std.specs.Ordering.{nat_cmp}
@@ -13,11 +13,26 @@ use Rattle.zr_index.specs.declared.node.Node.TheOpen.{Node-F}
 use Rattle.zr_index.specs.declared.node.Node.TheViews.{out-Node}
 use Rattle.zr_index.specs.Pairs.{pairs, weigh_below}
 use Rattle.zr_index.proofs.Levels.{guarded}
-use Rattle.zr_index.proofs.Changing.{grow_plain, grow_wild, same_level}
+use Rattle.zr_index.proofs.Changing.{grow_values, grow_plain, grow_wild, same_level}
 use Rattle.zr_index.proofs.Sought.{same_key}
 use Rattle.zr_index.proofs.Taking.{added, kept, at_ok, refused_weaker}
 use Rattle.zr_index.proofs.Weights.{sum_set, sum_new}
 use Rattle.zr_index.proofs.node.+adding.Goals as goal
+
+pub Node::add-returns-in-None-clause-added : goal.Node::add-returns-in-None-clause-added
+Node::add-returns-in-None-clause-added g t c =
+    let n = c.args.self.now in
+    let x = out-Node g.row.V.Denot n in
+    let y : Node-F g.row.V.Denot (Node g.row.V.Denot) = record { values = c.add_value.new.values; plain = x.plain; wild = x.wild } in
+    on_ok_weaker c.add_value.result (λ h f. added n y (parts 47 (option_copied c.args.rest)) f [] c.args.value (ap (λ r. parts 47 (option_copied r)) c.in-None.is)
+    (grow_values f x y c.args.value (h (λ w. f ([], w))) refl refl)) c.add_value.ensures.added
+
+pub Node::add-returns-in-None-clause-refused : goal.Node::add-returns-in-None-clause-refused
+Node::add-returns-in-None-clause-refused g t c =
+    let n = c.args.self.now in
+    let x = out-Node g.row.V.Denot n in
+    let y : Node-F g.row.V.Denot (Node g.row.V.Denot) = record { values = c.add_value.new.values; plain = x.plain; wild = x.wild } in
+    refused_weaker c.args.value c.add_value.result (λ h f. kept n y (parts 47 (option_copied c.args.rest)) f (same_level f x y h refl refl)) c.add_value.ensures.refused
 
 pub Node::add-returns-then-is_plain-clause-added :
     goal.Node::add-returns-then-is_plain-clause-added

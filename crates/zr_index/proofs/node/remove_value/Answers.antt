@@ -1,7 +1,7 @@
 use Rattle.std.proofs.Common.{◌≡◌, refl, sym, ap, ◌∙◌, arith, get_or}
 use Rattle.std.specs.List.{sum_by, position}
 use Rattle.std.proofs.lemmas.List.Quantifiers.{position-Some}
-use Rattle.std.proofs.lemmas.List.Sums.{sum_by-swap_remove}
+use Rattle.std.proofs.lemmas.List.Sums.{sum_by-remove}
 use Rattle.zr_index.proofs.Changing.{none_placed}
 use Rattle.zr_index.proofs.node.remove_value.Goals as goal
 
@@ -13,11 +13,11 @@ returns-in_default g c =
 pub returns : goal.returns
 returns g c =
     let vs = c.args.values.now.items in
-    let w = c.swap_remove.result in
+    let w = c.remove.result in
     let found = ap (λ xs. position (λ w. g.V.PartialEq.eq w c.args.value.now) xs) (sym c.deref.ensures.value) ∙ sym c.place_of.ensures ∙ c.in-Some.is in
     let placed = position-Some (λ w. g.V.PartialEq.eq w c.args.value.now) vs c.in-Some.place w found in
-    let there : w ≡ get_or vs c.in-Some.place w = c.swap_remove.ensures.value in (
+    let there : w ≡ get_or vs c.in-Some.place w = c.remove.ensures.value in (
       w,
       ap (λ x. g.V.PartialEq.eq x c.args.value.now) there ∙ placed.1,
-      λ f. omega (arith, sum_by-swap_remove f vs c.in-Some.place w placed.0, ap f there, ap (sum_by f) c.swap_remove.ensures.items),
+      λ f. omega (arith, sum_by-remove f vs c.in-Some.place w placed.0, ap f there, ap (sum_by f) c.remove.ensures.items),
     )
