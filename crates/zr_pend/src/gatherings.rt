@@ -88,6 +88,7 @@ impl Gatherings {
         ensures held { option_copied result ≡ option_and_then (λ a. held_of (held_for self.now a) key.now) asker }
         ensures differ { gatherings_differ self.now ≡ true }
     {
+        // Read, so that the proof knows that the gatherings differ.
         let _ = &self.items;
         match asker {
             Some(asker) => self.get(asker, key),
