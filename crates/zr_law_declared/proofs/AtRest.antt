@@ -23,14 +23,14 @@ use Rattle.zr_local.proofs.Rows.{key_order}
 use Rattle.zr_log.specs.Known.{decls}
 use Rattle.zr_node_spec.specs.Tables.{is_router, link_at, link_to, is_link, leads_to_client}
 use Rattle.zr_node_spec.specs.Table.{key_of}
-use Rattle.zr_world_spec.specs.World.{RouterState, EndState, ClientState, WorldState, router_of, client_of, end_of, is_up, is_unbroken, is_settled, is_calm, is_calm_end, is_met}
+use Rattle.zr_world_spec.specs.World.{RouterState, EndState, ClientState, WorldState, router_of, client_of, end_of, is_up, is_unbroken, is_settled, is_calm, is_calm_end, is_met, wire_at}
 use Rattle.zr_world_spec.specs.Moments.{Numbered, Moment, reached}
 use Rattle.zr_world_spec.specs.Moments as moments
 use Rattle.zr_world_spec.proofs.Keyed.{there}
 use Rattle.zr_world_spec.proofs.Lines.{at_some}
 use Rattle.zr_guarantee.specs.Broker.{is_attached}
 use Rattle.zr_law_settled.proofs.Spreading.{Name}
-use Rattle.zr_law_settled.proofs.Worlds.{there_in, wire_at}
+use Rattle.zr_law_settled.proofs.Worlds.{there_in}
 use Rattle.zr_law_settled.proofs.Quiet.{passes_there}
 use Rattle.zr_law_settled.proofs.Rest.{passes, met}
 use Rattle.zr_law_settled.proofs.Agreeing.{logs_agree}

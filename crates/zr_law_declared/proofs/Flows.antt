@@ -25,7 +25,7 @@ use Rattle.zr_node_spec.specs.Table.{rows_left, after}
 use Rattle.zr_node_spec.proofs.FreeLink.{free_is_free}
 use Rattle.zr_node_spec.proofs.LinksStay.{links_from}
 use Rattle.zr_local.specs.Rows.{left}
-use Rattle.zr_world_spec.specs.World.{Tagged, RouterState, EndState, ClientState, End, Ends, Routers, Clients, WorldState, with_routers, with_clients, with_ends, new_router, new_client, with_router, with_client, router_of, client_of, end_of, is_end, put_end, with_end, with_wire, lifted, lowered, new_end, is_up, is_unbroken, is_taken, sent}
+use Rattle.zr_world_spec.specs.World.{Tagged, RouterState, EndState, ClientState, End, Ends, Routers, Clients, WorldState, with_routers, with_clients, with_ends, new_router, new_client, with_router, with_client, router_of, client_of, end_of, is_end, put_end, with_end, with_wire, lifted, lowered, new_end, is_up, is_unbroken, is_taken, sent, wire_at}
 use Rattle.zr_world_spec.specs.Acts.{having_told, peer_of}
 use Rattle.zr_world_spec.specs.Moments.{Numbered}
 use Rattle.zr_world_spec.specs.Sound.{IsSound}
@@ -35,7 +35,7 @@ use Rattle.zr_world_spec.proofs.Links.{link_to_with, link_to_apart}
 use Rattle.zr_world_spec.proofs.Clients.{SameClients, there_same, client_was}
 use Rattle.zr_world_spec.proofs.Cases.{w_client, w_up, w_down, w_handle, w_sent, free_name}
 use Rattle.zr_law_settled.proofs.Spreading.{Name}
-use Rattle.zr_law_settled.proofs.Worlds.{there_in, wire_at}
+use Rattle.zr_law_settled.proofs.Worlds.{there_in}
 use Rattle.zr_law_settled.proofs.Quiet.{no_end, passes_there}
 use Rattle.zr_law_settled.proofs.Moving.{up_at, unbroken_at}
 use Rattle.zr_law_settled.proofs.Links.{AreKnown, linked_to, is_at}

@@ -1,13 +1,14 @@
 -- Each act leaves routers whose clients were told of what they want, and no more clients than there may be.
-use Rattle.std.proofs.Common.{◌≡◌, ◌≤◌, ◌<◌, ◌+◌, ℕ, suc, Bool, true, false, cond, List, [], ◌∷◌, length, Some, None, Ordering, Less, Equal, Greater, sym, ap, ◌∙◌, subst, arith}
+use Rattle.std.proofs.Common.{◌≡◌, ◌≤◌, ◌<◌, ℕ, Bool, true, false, cond, List, [], length, Some, None, sym, ap, ◌∙◌, subst, arith}
 use Rattle.std.specs.Prelude.{IfSome, is_some, unwrap_or}
 use Rattle.std.specs.BTreeMap.{insert_entry}
 use Rattle.std.specs.Cmp.Lexicographic.{slice_cmp}
-use Rattle.std.specs.Ordering.{nat_cmp, match_ordering}
+use Rattle.std.specs.Ordering.{nat_cmp}
 use Rattle.std.proofs.lemmas.Bool.{false≢true, leb-false}
 use Rattle.std.proofs.lemmas.List.{length-map}
 use Rattle.std.proofs.lemmas.Map.{length-set_value}
 use Rattle.zr_lists.proofs.Options.{not_there}
+use Rattle.zr_lists.proofs.Entries.{length_inserted}
 use Rattle.zr_id.specs.Zid.{is_named}
 use Rattle.zr_msg.specs.declared.decl.Kind.TheVariants as k
 use Rattle.zr_msg.specs.declared.event.Event.{Event}
@@ -48,22 +49,11 @@ new_are_right routers id free right y q there = by (is_named y id) (sym (value_n
 
 -- ---- clients
 
--- one more client
-length_inserted : {X : Type 0} (es : List (List ℕ × X)) (k : List ℕ) (v : X) → length (insert_entry (slice_cmp nat_cmp) es k v) ≤ length es + 1
-length_inserted [] k v = omega arith
-length_inserted (e ∷ es) k v = by (slice_cmp nat_cmp k e.0) (length_inserted es k v)
-  where
-    by : (o : Ordering) → length (insert_entry (slice_cmp nat_cmp) es k v) ≤ length es + 1 →
-        length (match_ordering o ((k, v) ∷ e ∷ es) ((e.0, v) ∷ es) (e ∷ insert_entry (slice_cmp nat_cmp) es k v)) ≤ suc (length es) + 1
-    by Less ih = omega arith
-    by Equal ih = omega arith
-    by Greater ih = omega (arith, ih)
-
 abbrev AreFew : Clients → Type 0
 AreFew clients = length clients ≤ most_clients
 
 few_new : (clients : Clients) (name : List ℕ) (s : ClientState) → length clients < most_clients → AreFew (insert_entry (slice_cmp nat_cmp) clients name s)
-few_new clients name s room = let more = length_inserted clients name s in omega (arith, more, room)
+few_new clients name s room = let more = length_inserted (slice_cmp nat_cmp) clients name s in omega (arith, more, room)
 
 few_set : (clients : Clients) (name : List ℕ) (s : ClientState) → AreFew clients → AreFew (with_client clients name s)
 few_set clients name s few = let same = length-set_value (is_named name) clients s in omega (arith, same, few)

@@ -13,7 +13,7 @@ use Rattle.zr_tree.specs.Laws.{IsGraph}
 use Rattle.zr_tree.proofs.Paths.{graph_is, walk_push, walk_reaches, dist_walk}
 use Rattle.zr_told_spec.specs.Hub.{HubState}
 use Rattle.zr_node_spec.specs.Tables.{link_to}
-use Rattle.zr_world_spec.specs.World.{Tagged, RouterState, EndState, End, WorldState, router_of, end_of, turned, is_up, is_calm, is_calm_end, is_met, is_settled}
+use Rattle.zr_world_spec.specs.World.{Tagged, RouterState, EndState, End, WorldState, router_of, end_of, turned, is_up, is_calm, is_calm_end, is_met, is_settled, wire_at}
 use Rattle.zr_world_spec.specs.Joined.{graph, is_joined}
 use Rattle.zr_world_spec.specs.Moments.{Numbered, Moment, reached as led}
 use Rattle.zr_world_spec.specs.Sound.{IsSound}
@@ -28,7 +28,7 @@ use Rattle.zr_law_settled.proofs.Graphs.{is_graph, walk_to, graph_is_one}
 use Rattle.zr_law_settled.proofs.Order.{Ascend, routers_ascend}
 use Rattle.zr_law_running.specs.Runs.{Heard}
 use Rattle.zr_law_running.specs.Allowed.{is_among}
-use Rattle.zr_law_running.specs.Laws.{queue_at, wire_at, IsMomentOf}
+use Rattle.zr_law_running.specs.Laws.{queue_at, IsMomentOf}
 use Rattle.zr_law_joined.specs.Settled.{links_to, leaves_known, AreSettled, AreJoined}
 use Rattle.zr_law_joined.specs.Laws.{Alike}
 

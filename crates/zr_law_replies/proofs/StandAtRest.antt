@@ -2,10 +2,10 @@
 use Rattle.std.proofs.Common.{◌≡◌, ℕ, Bool, true, false, List, [], ◌∷◌, ◌++◌, filter, Option, Some, None, refl, sym, ap, ◌∙◌}
 use Rattle.std.specs.List.{flat_map}
 use Rattle.std.specs.Option.{option_map_or}
-use Rattle.zr_world_spec.specs.World.{Tagged, EndState, End, end_of, is_quiet}
+use Rattle.zr_world_spec.specs.World.{Tagged, EndState, End, end_of, is_quiet, wire_at as on_wire}
 use Rattle.zr_world_spec.specs.Moments.{Numbered, Moment}
 use Rattle.zr_guarantee.specs.Queries.{Asked}
-use Rattle.zr_law_settled.proofs.Worlds.{queue_at as in_queue, wire_at as on_wire}
+use Rattle.zr_law_settled.proofs.Worlds.{queue_at as in_queue}
 use Rattle.zr_law_samples.proofs.Final.{none_under_way}
 use Rattle.zr_law_queries.specs.Link.{has_number, answers_number, asks_of, answers_of, answers_with}
 use Rattle.zr_law_queries.specs.Query.{Stage, NotYet, OnTheWay, Here as AtNode, Over, is_at_rest, IsQuiet}

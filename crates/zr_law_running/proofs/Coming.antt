@@ -15,24 +15,24 @@ use Rattle.zr_told_spec.specs.Hub.{hub_after, hub_refuses}
 use Rattle.zr_script_spec.specs.declared.command.Act.{Act}
 use Rattle.zr_script_spec.specs.declared.command.Act.TheVariants as a
 use Rattle.zr_script_spec.specs.declared.report.ReportLine.{ReportLine}
-use Rattle.zr_world_spec.specs.World.{Tagged, ClientState, RouterState, EndState, End, WorldState, is_end, is_taken, is_up, router_of, client_of, end_of, put_end, with_ends, with_clients, new_client, new_end, lifted, most_clients}
+use Rattle.zr_world_spec.specs.World.{Tagged, ClientState, RouterState, EndState, End, WorldState, is_end, is_taken, is_up, router_of, client_of, end_of, put_end, with_ends, with_clients, new_client, new_end, lifted, most_clients, wire_at}
 use Rattle.zr_world_spec.specs.Acts.{outcome, having_told, up_event, heard as heard_in}
-use Rattle.zr_world_spec.specs.Moments.{Moment}
+use Rattle.zr_world_spec.specs.Moments.{Moment, then_at}
 use Rattle.zr_world_spec.specs.Sound.{IsSound}
 use Rattle.zr_world_spec.proofs.Cases.{w_client}
 use Rattle.zr_world_spec.proofs.Ends.{same_end, end_parts, put_end_is, read_put_end}
 use Rattle.zr_world_spec.proofs.Fits.{up_of}
 use Rattle.zr_world_spec.proofs.Names.{names, same_name, value_new}
 use Rattle.zr_world_spec.proofs.Sound.{act_keeps}
+use Rattle.zr_lists.proofs.Entries.{length_inserted}
 use Rattle.zr_law_running.specs.Runs.{Arrival, Several, new_link, queued_for, heard, with_client}
 use Rattle.zr_law_running.specs.Deeds.{deed_of}
 use Rattle.zr_law_running.specs.Allowed.{is_among}
-use Rattle.zr_law_running.specs.Laws.{wire_at}
-use Rattle.zr_law_running.proofs.Steps.{Span, Came, did, did_more, next_number, then_at, one_more, client_goes}
+use Rattle.zr_law_running.proofs.Steps.{Span, Came, did, did_more, next_number, one_more, client_goes}
 use Rattle.zr_law_running.proofs.Holding.{read, router_in, IsHome, Homes, is_client, messages_to, Calm, Pending}
 use Rattle.zr_law_running.proofs.Hearing.{at_true, at_false, own_router_is, no_own_end, no_link_to, homes_kept, hears}
 use Rattle.zr_law_running.proofs.Draining.{sound_after, Standing, drained}
-use Rattle.zr_law_running.proofs.Counting.{under, length_inserted}
+use Rattle.zr_law_running.proofs.Counting.{under}
 
 -- an act is accepted, and what it leaves for the clients of a router is taken
 pub finish : (g : Span) (ids : List (List ℕ)) (m : Moment) (c : Came g m) → IsSound m.world → (act : Act) (x : List ReportLine × WorldState) → g.test act ≡ true → outcome m.world (next_number g m c) act ≡ Ok x →

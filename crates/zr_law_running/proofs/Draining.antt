@@ -15,9 +15,9 @@ use Rattle.zr_node_spec.specs.Tables.{link_to}
 use Rattle.zr_script_spec.specs.declared.command.Act.TheVariants as a
 use Rattle.zr_script_spec.specs.declared.report.ReportLine.{ReportLine}
 use Rattle.zr_script_spec.specs.declared.report.ReportLine.TheVariants.{Taken}
-use Rattle.zr_world_spec.specs.World.{Tagged, ClientState, RouterState, EndState, End, Ends, Clients, WorldState, is_end, is_taken, is_up, router_of, client_of, end_of, with_end, changed, with_queue, sent}
+use Rattle.zr_world_spec.specs.World.{Tagged, ClientState, RouterState, EndState, End, Ends, Clients, WorldState, is_end, is_taken, is_up, router_of, client_of, end_of, with_end, changed, with_queue, sent, wire_at}
 use Rattle.zr_world_spec.specs.Acts.{Outcome, outcome, receiving, received}
-use Rattle.zr_world_spec.specs.Moments.{Moment}
+use Rattle.zr_world_spec.specs.Moments.{Moment, then_at}
 use Rattle.zr_world_spec.specs.Sound.{IsSound}
 use Rattle.zr_world_spec.proofs.Cases.{w_take}
 use Rattle.zr_world_spec.proofs.Clients.{idle_receiving}
@@ -29,8 +29,7 @@ use Rattle.zr_world_spec.proofs.Sound.{Keeps, act_keeps}
 use Rattle.zr_guarantee.specs.Sent.{Told, told_in, told_to}
 use Rattle.zr_law_running.specs.Runs.{LinkState, Several, at_name, with_waits}
 use Rattle.zr_law_running.specs.Allowed.{is_among}
-use Rattle.zr_law_running.specs.Laws.{wire_at}
-use Rattle.zr_law_running.proofs.Steps.{Span, Came, did, did_more, next_number, then_at, one_more, take_goes}
+use Rattle.zr_law_running.proofs.Steps.{Span, Came, did, did_more, next_number, one_more, take_goes}
 use Rattle.zr_law_running.proofs.Holding.{read, router_in, IsHome, Homes, is_client, messages_to, Calm, Pending, calm}
 use Rattle.zr_law_running.proofs.Hearing.{at_true, at_false}
 

@@ -16,17 +16,16 @@ use Rattle.zr_told_spec.specs.Hub.{hub_after, hub_sends, hub_refuses}
 use Rattle.zr_script_spec.specs.declared.command.Act.{Act}
 use Rattle.zr_script_spec.specs.declared.command.Act.TheVariants as a
 use Rattle.zr_script_spec.specs.declared.report.ReportLine.{ReportLine}
-use Rattle.zr_world_spec.specs.World.{ClientState, RouterState, EndState, End, WorldState, is_end, router_of, client_of, end_of, changed, broken, lowered}
+use Rattle.zr_world_spec.specs.World.{ClientState, RouterState, EndState, End, WorldState, is_end, router_of, client_of, end_of, changed, broken, lowered, wire_at}
 use Rattle.zr_world_spec.specs.Acts.{outcome, sends_to, told_to, number_at, number_to, heard as heard_in}
-use Rattle.zr_world_spec.specs.Moments.{Moment}
+use Rattle.zr_world_spec.specs.Moments.{Moment, then_at}
 use Rattle.zr_world_spec.specs.Sound.{AreUnique, IsSound}
 use Rattle.zr_world_spec.proofs.Cases.{w_break, w_down}
 use Rattle.zr_world_spec.proofs.Ends.{ends, same_end, changed_is}
 use Rattle.zr_world_spec.proofs.Sound.{act_keeps}
 use Rattle.zr_law_running.specs.Runs.{Parting, LinkState, Several, with_waits, queued_for, heard, parted, without_link, parting, with_none}
 use Rattle.zr_law_running.specs.Allowed.{is_among}
-use Rattle.zr_law_running.specs.Laws.{wire_at}
-use Rattle.zr_law_running.proofs.Steps.{Span, did, did_more, Came, next_number, then_at, one_more, break_goes, down_goes}
+use Rattle.zr_law_running.proofs.Steps.{Span, did, did_more, Came, next_number, one_more, break_goes, down_goes}
 use Rattle.zr_law_running.proofs.Holding.{read, router_in, IsHome, Homes, is_client, messages_to, Calm, Pending, home_queued}
 use Rattle.zr_law_running.proofs.Hearing.{at_true, at_false, no_own_end, hears, end_kept}
 use Rattle.zr_law_running.proofs.Draining.{sound_after, Standing}

@@ -13,7 +13,7 @@ use Rattle.zr_node_spec.specs.Tables.{link_to}
 use Rattle.zr_told_spec.specs.Hub.{HubState, hub_after, hub_sends, sends_told}
 use Rattle.zr_told_spec.specs.Rows.{map_on}
 use Rattle.zr_script_spec.specs.declared.report.ReportLine.{ReportLine}
-use Rattle.zr_world_spec.specs.World.{ClientState, RouterState, EndState, End, Clients, Ends, WorldState, router_of, client_of, with_router, end_of, is_up, queued}
+use Rattle.zr_world_spec.specs.World.{ClientState, RouterState, EndState, End, Clients, Ends, WorldState, router_of, client_of, with_router, end_of, is_up, queued, wire_at}
 use Rattle.zr_world_spec.specs.Acts.{receiving, sends_to, told_to, hub_of, hearing, having_told, all_queued, heard as heard_in}
 use Rattle.zr_world_spec.specs.Sound.{IsSound}
 use Rattle.zr_lists.proofs.Options.{not_there}
@@ -21,7 +21,6 @@ use Rattle.zr_world_spec.proofs.Names.{names, same_name, value_after}
 use Rattle.zr_world_spec.proofs.Ends.{waiting_is}
 use Rattle.zr_law_running.specs.Runs.{LinkState, Several, queued_for, with_waits, heard}
 use Rattle.zr_law_running.specs.Allowed.{is_among}
-use Rattle.zr_law_running.specs.Laws.{wire_at}
 use Rattle.zr_law_running.proofs.Holding.{read, router_in, IsHome, Homes, is_client, Calm, Pending, both_queued, read_queued, wire_queued, home_queued}
 
 -- what a router sends to a neighbour and then tells it is what the event queues for it

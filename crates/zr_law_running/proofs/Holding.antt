@@ -9,12 +9,11 @@ use Rattle.zr_id.specs.Zid.{is_named}
 use Rattle.zr_msg.specs.declared.msg.Msg.{Msg}
 use Rattle.zr_node_spec.specs.Tables.{link_to}
 use Rattle.zr_script_spec.specs.declared.report.ReportLine.{ReportLine}
-use Rattle.zr_world_spec.specs.World.{Tagged, ClientState, RouterState, EndState, End, WorldState, router_of, client_of, end_of, queued}
+use Rattle.zr_world_spec.specs.World.{Tagged, ClientState, RouterState, EndState, End, WorldState, router_of, client_of, end_of, queued, wire_at}
 use Rattle.zr_world_spec.specs.Acts.{receiving}
 use Rattle.zr_guarantee.specs.Sent.{told_to}
 use Rattle.zr_law_running.specs.Runs.{LinkState, Several, no_link, with_waits}
 use Rattle.zr_law_running.specs.Allowed.{is_among}
-use Rattle.zr_law_running.specs.Laws.{wire_at}
 
 -- ---- readings
 

@@ -10,17 +10,16 @@ use Rattle.zr_node_spec.specs.Tables.{link_to}
 use Rattle.zr_told_spec.specs.Hub.{hub_after, hub_refuses}
 use Rattle.zr_script_spec.specs.declared.command.Act.{Act}
 use Rattle.zr_script_spec.specs.declared.command.Act.TheVariants as a
-use Rattle.zr_world_spec.specs.World.{RouterState, EndState, End, Ends, WorldState, is_end, is_taken, is_up, is_in_place, links_in_place, router_of, end_of, with_end, put_end, with_ends, new_end, lifted, most_links}
+use Rattle.zr_world_spec.specs.World.{RouterState, EndState, End, Ends, WorldState, is_end, is_taken, is_up, is_in_place, links_in_place, router_of, end_of, with_end, put_end, with_ends, new_end, lifted, most_links, wire_at}
 use Rattle.zr_world_spec.specs.Acts.{outcome, peer_of, up_event, heard as heard_in}
-use Rattle.zr_world_spec.specs.Moments.{Moment}
+use Rattle.zr_world_spec.specs.Moments.{Moment, then_at}
 use Rattle.zr_world_spec.specs.Sound.{IsSound}
 use Rattle.zr_world_spec.proofs.Cases.{w_link}
 use Rattle.zr_world_spec.proofs.Ends.{same_end, with_end_is, read_with_end, put_end_is}
 use Rattle.zr_world_spec.proofs.Sound.{act_keeps}
 use Rattle.zr_law_running.specs.Runs.{LinkState, Several, new_link, queued_for, heard, with_link}
 use Rattle.zr_law_running.specs.Allowed.{is_among, placed_links}
-use Rattle.zr_law_running.specs.Laws.{wire_at}
-use Rattle.zr_law_running.proofs.Steps.{Span, did, next_number, then_at, link_goes, up_goes}
+use Rattle.zr_law_running.proofs.Steps.{Span, did, next_number, link_goes, up_goes}
 use Rattle.zr_law_running.proofs.Holding.{read, router_in, IsHome, Homes, unbroken_is, is_client, messages_to, Calm}
 use Rattle.zr_law_running.proofs.Hearing.{at_true, no_own_end, homes_kept, hears}
 use Rattle.zr_law_running.proofs.Draining.{sound_after, Standing}

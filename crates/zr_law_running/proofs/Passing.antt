@@ -12,17 +12,16 @@ use Rattle.zr_told_spec.specs.Hub.{hub_refuses}
 use Rattle.zr_script_spec.specs.declared.command.Act.TheVariants as a
 use Rattle.zr_script_spec.specs.declared.report.ReportLine.{ReportLine}
 use Rattle.zr_script_spec.specs.declared.report.ReportLine.TheVariants.{Taken}
-use Rattle.zr_world_spec.specs.World.{Tagged, ClientState, EndState, End, Ends, WorldState, is_end, router_of, client_of, end_of, with_end, with_ends, with_wire, with_queue, sent}
+use Rattle.zr_world_spec.specs.World.{Tagged, ClientState, EndState, End, Ends, WorldState, is_end, router_of, client_of, end_of, with_end, with_ends, with_wire, with_queue, sent, wire_at}
 use Rattle.zr_world_spec.specs.Acts.{outcome, number_to, received}
-use Rattle.zr_world_spec.specs.Moments.{Moment}
+use Rattle.zr_world_spec.specs.Moments.{Moment, then_at}
 use Rattle.zr_world_spec.proofs.Cases.{w_take}
 use Rattle.zr_world_spec.proofs.Ends.{ends as ends_refl, same_end, end_turned, with_end_is, changed_is}
 use Rattle.zr_world_spec.proofs.Names.{names, same_name}
 use Rattle.zr_world_spec.proofs.Sound.{act_keeps}
 use Rattle.zr_law_running.specs.Runs.{LinkState, Several, with_waits, heard, behind_first, taking}
 use Rattle.zr_law_running.specs.Allowed.{is_among}
-use Rattle.zr_law_running.specs.Laws.{wire_at}
-use Rattle.zr_law_running.proofs.Steps.{Span, did, did_more, next_number, then_at, one_more, take_goes}
+use Rattle.zr_law_running.proofs.Steps.{Span, did, did_more, next_number, one_more, take_goes}
 use Rattle.zr_law_running.proofs.Holding.{read, router_in, IsHome, Homes, is_client, messages_to, Calm}
 use Rattle.zr_law_running.proofs.Hearing.{at_true}
 use Rattle.zr_law_running.proofs.Draining.{Front, front_of, sound_after, told_more, Standing}

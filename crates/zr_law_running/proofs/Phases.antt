@@ -13,14 +13,14 @@ use Rattle.zr_script_spec.specs.declared.report.ReportLine.TheVariants as line
 use Rattle.zr_world_spec.specs.World.{WorldState, unsettles, is_settled, most_routers}
 use Rattle.zr_world_spec.specs.Joined.{is_joined}
 use Rattle.zr_world_spec.specs.Acts.{outcome, mark_step}
-use Rattle.zr_world_spec.specs.Moments.{Numbered, is_step, ascends, Moment, reached}
+use Rattle.zr_world_spec.specs.Moments.{Numbered, is_step, ascends, Moment, reached, then_at}
 use Rattle.zr_guarantee.specs.Phase.{stays}
 use Rattle.zr_guarantee.specs.Sent.{Told, told_in, told_to}
 use Rattle.zr_law_running.specs.Runs.{Heard, Several, at_first, happened, outcome_from, outcome_of}
 use Rattle.zr_law_running.specs.Deeds.{deed_of, deeds}
 use Rattle.zr_law_running.specs.Allowed.{IsRunFrom, IsRun}
 use Rattle.zr_law_running.specs.Laws.{leaves, IsPhaseOf, RunsHavePhases}
-use Rattle.zr_law_running.proofs.Steps.{Span, then_at, more_accepted, final, by_test}
+use Rattle.zr_law_running.proofs.Steps.{Span, more_accepted, final, by_test}
 use Rattle.zr_law_running.proofs.Holding.{messages_to}
 use Rattle.zr_law_running.proofs.Draining.{Standing}
 use Rattle.zr_law_running.proofs.Coming.{same_report}

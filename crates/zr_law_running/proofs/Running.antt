@@ -20,21 +20,21 @@ use Rattle.zr_script_spec.specs.declared.command.Act.{Act}
 use Rattle.zr_script_spec.specs.declared.command.Act.TheVariants as a
 use Rattle.zr_world_spec.specs.World.{ClientState, EndState, WorldState, is_end, is_taken, router_of, client_of, end_of, new_router, with_routers, unsettles, most_routers}
 use Rattle.zr_world_spec.specs.Acts.{outcome, number_at, number_to, up_event}
-use Rattle.zr_world_spec.specs.Moments.{Moment, beginning}
+use Rattle.zr_world_spec.specs.Moments.{Moment, beginning, then_at}
 use Rattle.zr_world_spec.proofs.Ends.{ends}
 use Rattle.zr_world_spec.proofs.Keyed.{there}
 use Rattle.zr_world_spec.proofs.Names.{names, same_name, value_new}
 use Rattle.zr_world_spec.proofs.Fits.{empty_sound}
 use Rattle.zr_guarantee.specs.Phase.{stays}
 use Rattle.zr_law_names.proofs.Alike.{steps_are_alike}
+use Rattle.zr_lists.proofs.Entries.{length_inserted}
 use Rattle.zr_law_running.specs.Runs.{Heard, LinkState, Several, new_link, at_first, part, heard, with_link, without_link, parting, coming, handed, spoken, brought, gone, happened, happened_at, outcome_from, outcome_of}
 use Rattle.zr_law_running.specs.Allowed.{is_among, AreApart, MayBringUp, MayBring, MayDeliver, MayOpen, MayHappen, IsRunFrom, IsRun}
 use Rattle.zr_law_running.specs.Laws.{queue_at, IsMomentOf, RunsAreOfAWorld}
-use Rattle.zr_law_running.proofs.Steps.{Span, did, next_number, then_at, router_goes}
+use Rattle.zr_law_running.proofs.Steps.{Span, did, next_number, router_goes}
 use Rattle.zr_law_running.proofs.Holding.{read, unbroken_is, router_in, is_client, messages_to}
 use Rattle.zr_law_running.proofs.Hearing.{at_true, at_false}
 use Rattle.zr_law_running.proofs.Draining.{Standing}
-use Rattle.zr_law_running.proofs.Counting.{length_inserted}
 use Rattle.zr_law_running.proofs.Coming.{stand, client_comes}
 use Rattle.zr_law_running.proofs.Linking.{second_up, link_made}
 use Rattle.zr_law_running.proofs.Going.{number_leads, goes_down}

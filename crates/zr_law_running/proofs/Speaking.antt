@@ -21,9 +21,9 @@ use Rattle.zr_script_spec.specs.declared.error.ScriptError.TheVariants.{UnknownN
 use Rattle.zr_script_spec.specs.declared.command.Act.{Act}
 use Rattle.zr_script_spec.specs.declared.command.Act.TheVariants as a
 use Rattle.zr_script_spec.specs.declared.command.Mode.TheVariants.{Now, Later, Both}
-use Rattle.zr_world_spec.specs.World.{Tagged, ClientState, RouterState, EndState, End, WorldState, is_end, router_of, client_of, with_router, with_client, end_of, with_end, with_ends, with_clients, with_routers, with_wire, sent, unsettles, most_weight, most_queries, weight_of}
+use Rattle.zr_world_spec.specs.World.{Tagged, ClientState, RouterState, EndState, End, WorldState, is_end, router_of, client_of, with_router, with_client, end_of, with_end, with_ends, with_clients, with_routers, with_wire, sent, unsettles, most_weight, most_queries, weight_of, wire_at}
 use Rattle.zr_world_spec.specs.Acts.{outcome, client_at, has_number, has_id, weighing, weighed, declaring, undeclaring, wanting, unwanting, asking, ending, number_to, declare_step, undeclare_step, interest_step, uninterest_step, publish_step, get_step, reply_step, end_step}
-use Rattle.zr_world_spec.specs.Moments.{Moment}
+use Rattle.zr_world_spec.specs.Moments.{Moment, then_at}
 use Rattle.zr_world_spec.proofs.Cases.{w_sent}
 use Rattle.zr_world_spec.proofs.Ends.{ends as ends_refl, same_end, with_end_is}
 use Rattle.zr_world_spec.proofs.Names.{same_name, value_after}
@@ -32,8 +32,7 @@ use Rattle.zr_guarantee.specs.Phase.{stays}
 use Rattle.zr_law_running.specs.Runs.{Saying, Several, heard, weighs, MaySay, said, saying}
 use Rattle.zr_law_running.specs.Deeds.{deed_of}
 use Rattle.zr_law_running.specs.Allowed.{is_among}
-use Rattle.zr_law_running.specs.Laws.{wire_at}
-use Rattle.zr_law_running.proofs.Steps.{Span, did, did_more, next_number, then_at, one_more, by_ok, by_test, by_pass, sends_goes}
+use Rattle.zr_law_running.proofs.Steps.{Span, did, did_more, next_number, one_more, by_ok, by_test, by_pass, sends_goes}
 use Rattle.zr_law_running.proofs.Holding.{read, router_in, IsHome, Homes, is_client, messages_to, Calm}
 use Rattle.zr_law_running.proofs.Hearing.{at_true}
 use Rattle.zr_law_running.proofs.Draining.{sound_after, Standing}

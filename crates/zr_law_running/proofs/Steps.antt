@@ -26,7 +26,7 @@ use Rattle.zr_script_spec.specs.declared.report.ReportLine.TheVariants.{Handled,
 use Rattle.zr_script_spec.specs.Step.{◌>>=◌}
 use Rattle.zr_world_spec.specs.World.{Tagged, ClientState, RouterState, EndState, WorldState, with_routers, with_ends, new_router, new_end, router_of, is_taken, end_of, with_end, put_end, most_routers, most_clients, most_links, is_in_place, links_in_place, with_wire, lifted}
 use Rattle.zr_world_spec.specs.Acts.{outcome, unless, router_at, end_at, oldest, up_event, peer_of, heard, heard_by, hears, refuses_of, number_to, client_sends, router_step, client_step, link_step, up_step, break_step, down_step, handle_step, take_step}
-use Rattle.zr_world_spec.specs.Moments.{Numbered, is_later, is_step, ascends, Moment, beginning, onward, went, reached}
+use Rattle.zr_world_spec.specs.Moments.{Numbered, is_later, is_step, ascends, Moment, beginning, onward, went, reached, then_at}
 use Rattle.zr_world_spec.proofs.Cases.{w_client, w_link, w_up, w_break, w_down, w_sent, w_handle, w_take}
 
 -- ---- accepted acts
@@ -58,10 +58,6 @@ ascends_more last (y ∷ ys) x h later =
 -- the number of the next act
 pub next_number : (g : Span) (m : Moment) → Came g m → ℕ
 next_number g m c = suc (final 0 (g.before ++ c.acts))
-
--- the moment that an act leads to
-abbrev pub then_at : Moment → List ReportLine × WorldState → Moment
-then_at m x = record { world = x.1; report = m.report ++ x.0 }
 
 -- one act more of those that were accepted
 pub more_accepted : (acts : List Numbered) (m : Moment) → ascends 0 acts ≡ true → reached acts ≡ Some m → (act : Act) (x : List ReportLine × WorldState) → outcome m.world (suc (final 0 acts)) act ≡ Ok x →

@@ -5,7 +5,7 @@ use Rattle.zr_msg.specs.declared.event.Event.{Event}
 use Rattle.zr_msg.specs.declared.event.Event.TheVariants.{Up, Down, From}
 use Rattle.zr_msg.specs.declared.msg.Msg.{Msg}
 use Rattle.zr_script_spec.specs.declared.command.Act.TheVariants.{Mark}
-use Rattle.zr_world_spec.specs.World.{RouterState, EndState, Tagged, router_of, client_of, end_of, is_unbroken, unsettles, is_settled}
+use Rattle.zr_world_spec.specs.World.{RouterState, EndState, router_of, client_of, end_of, is_unbroken, unsettles, is_settled, wire_at}
 use Rattle.zr_world_spec.specs.Joined.{is_joined}
 use Rattle.zr_world_spec.specs.Acts.{hub_of}
 use Rattle.zr_world_spec.specs.Moments.{Numbered, ascends, Moment, reached}
@@ -23,10 +23,6 @@ use Rattle.zr_law_running.specs.Allowed.{is_among, AreRouters, IsRun}
 abbrev pub queue_at : Option EndState → List Msg
 queue_at None = []
 queue_at (Some s) = map (λ t. t.msg) s.queue
-
-abbrev pub wire_at : Option EndState → List Tagged
-wire_at None = []
-wire_at (Some s) = s.wire
 
 -- A moment of a script's world is that of a run: each router has come to its tables by its part alone, its clients are those of the run, the queue of
 -- each end has just what was queued there and not yet heard of, nothing is on a wire, the same links are unbroken, and each client was sent all that was

@@ -11,7 +11,7 @@ use Rattle.std.proofs.lemmas.List.Sums.{fold-append}
 use Rattle.zr_script_spec.specs.declared.command.Act.TheVariants as c
 use Rattle.zr_script_spec.specs.declared.report.ReportLine.TheVariants as line
 use Rattle.zr_lists.specs.Prefix.{IsPrefixOf}
-use Rattle.zr_world_spec.specs.World.{Tagged, EndState, End, Ends, ClientState, router_of, client_of, end_of, is_empty, is_idle, is_quiet, is_settled}
+use Rattle.zr_world_spec.specs.World.{Tagged, EndState, End, Ends, ClientState, router_of, client_of, end_of, is_empty, is_idle, is_quiet, is_settled, wire_at}
 use Rattle.zr_world_spec.specs.Joined.{is_joined}
 use Rattle.zr_world_spec.specs.Acts.{outcome}
 use Rattle.zr_world_spec.specs.Moments.{Numbered, ascends, Moment, beginning, onward, reached}
@@ -26,7 +26,7 @@ use Rattle.zr_world_spec.proofs.Ends.{end_order, same_end}
 use Rattle.zr_world_spec.proofs.Cases.{on_mark, for_mark}
 use Rattle.zr_lists.proofs.Tests.{weaker}
 use Rattle.zr_law_samples.proofs.Places.{hops, along, bare}
-use Rattle.zr_law_settled.proofs.Worlds.{queue_at, wire_at}
+use Rattle.zr_law_settled.proofs.Worlds.{queue_at}
 use Rattle.zr_law_declared.proofs.Folds.{refused_stays, at_some}
 use Rattle.zr_law_samples.proofs.Watch.{Passes}
 use Rattle.zr_law_samples.proofs.Pair.{Pair, items, kept_for, wanted_of, held, OnWay, Between, Flows, sent_more}

@@ -13,7 +13,7 @@ use Rattle.zr_script_spec.specs.declared.command.Act.TheVariants as c
 use Rattle.zr_script_spec.specs.declared.report.ReportLine.TheVariants as line
 use Rattle.zr_node_spec.specs.State.{NodeState}
 use Rattle.zr_node_spec.specs.Table.{after_from}
-use Rattle.zr_world_spec.specs.World.{Tagged, EndState, End, Ends, RouterState, is_end, with_ends, router_of, end_of, with_end, queued, with_wire, is_calm, unsettles}
+use Rattle.zr_world_spec.specs.World.{Tagged, EndState, End, Ends, RouterState, is_end, with_ends, router_of, end_of, with_end, queued, with_wire, is_calm, unsettles, wire_at}
 use Rattle.zr_world_spec.specs.Acts.{sends_to, number_to, hearing, sending}
 use Rattle.zr_world_spec.specs.Moments.{Numbered, Moment}
 use Rattle.zr_guarantee.specs.Item.{Item, Carried}
@@ -24,7 +24,7 @@ use Rattle.zr_world_spec.proofs.Ends.{end_parts, same_end, read_with_end, keep_w
 use Rattle.zr_world_spec.proofs.Cases.{on_handle}
 use Rattle.zr_lists.proofs.Tests.{all_both, weaker, all_true}
 use Rattle.zr_law_samples.proofs.Places.{Sent, Queue, Wire, Hop, hops, along, keeps, handled}
-use Rattle.zr_law_settled.proofs.Worlds.{queue_at, wire_at}
+use Rattle.zr_law_settled.proofs.Worlds.{queue_at}
 use Rattle.zr_law_samples.proofs.Carried.{carried_in}
 use Rattle.zr_law_samples.proofs.Idle.{idle, asked_as}
 use Rattle.zr_law_samples.proofs.Pushes.{names_tree, goes_on}

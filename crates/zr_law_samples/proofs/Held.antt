@@ -9,7 +9,7 @@ use Rattle.std.proofs.lemmas.Grind.{flat_map-append}
 use Rattle.std.proofs.lemmas.List.Elements.{filter-append}
 use Rattle.zr_id.specs.Zid.{is_named}
 use Rattle.zr_msg.specs.declared.msg.Msg.{Msg}
-use Rattle.zr_world_spec.specs.World.{Tagged, EndState, RouterState, End, Ends, Clients, router_of, end_of, sent, queued}
+use Rattle.zr_world_spec.specs.World.{Tagged, EndState, RouterState, End, Ends, Clients, router_of, end_of, sent, queued, wire_at}
 use Rattle.zr_world_spec.specs.Moments.{Numbered, Moment}
 use Rattle.zr_guarantee.specs.Item.{Item, Carried}
 use Rattle.zr_guarantee.specs.Broker.{is_for}
@@ -17,7 +17,7 @@ use Rattle.zr_guarantee.specs.Sent.{carried_by, items_of, item_of}
 use Rattle.zr_world_spec.proofs.Clients.{SameClients}
 use Rattle.zr_world_spec.proofs.Names.{same_name}
 use Rattle.zr_lists.proofs.Tests.{all_both, filter_none_of_all}
-use Rattle.zr_law_settled.proofs.Worlds.{queue_at, wire_at}
+use Rattle.zr_law_settled.proofs.Worlds.{queue_at}
 use Rattle.zr_law_samples.proofs.Carried.{carried_in}
 use Rattle.zr_law_samples.proofs.Tags.{item_tag}
 use Rattle.zr_law_samples.proofs.Pair.{Pair, items, all_tagged, of_publisher, wanted_of, kept_for, has_router, idle_router, Flows, IsRouted}

@@ -18,7 +18,7 @@ use Rattle.zr_script_spec.specs.declared.command.Act.{Act}
 use Rattle.zr_script_spec.specs.declared.command.Act.TheVariants as c
 use Rattle.zr_script_spec.specs.declared.report.ReportLine.{ReportLine}
 use Rattle.zr_node_spec.specs.State.{NodeState}
-use Rattle.zr_world_spec.specs.World.{Tagged, End, RouterState, ClientState, WorldState, is_calm, router_of, client_of, end_of}
+use Rattle.zr_world_spec.specs.World.{Tagged, End, RouterState, ClientState, WorldState, is_calm, router_of, client_of, end_of, wire_at}
 use Rattle.zr_world_spec.specs.Joined.{graph}
 use Rattle.zr_world_spec.specs.Acts.{number_to, sends_to}
 use Rattle.zr_world_spec.specs.Moments.{Numbered, Moment}
@@ -31,7 +31,7 @@ use Rattle.zr_law_samples.proofs.Carried.{carried_in}
 use Rattle.zr_law_samples.proofs.Idle.{idle, asked_as}
 use Rattle.zr_law_samples.proofs.Told.{sent_append}
 use Rattle.zr_law_samples.proofs.Places.{Spot, Sent, Queue, Wire, AtEach, path, along}
-use Rattle.zr_law_settled.proofs.Worlds.{queue_at, wire_at}
+use Rattle.zr_law_settled.proofs.Worlds.{queue_at}
 use Rattle.zr_law_samples.proofs.Pushes.{names_tree}
 
 -- the samples and requests among the messages that wait

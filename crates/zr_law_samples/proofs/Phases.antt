@@ -11,13 +11,12 @@ use Rattle.zr_msg.specs.declared.msg.Msg.TheVariants as m
 use Rattle.zr_script_spec.specs.declared.command.Act.{Act}
 use Rattle.zr_script_spec.specs.declared.command.Act.TheVariants as c
 use Rattle.zr_script_spec.specs.Mode.{is_current, is_future}
-use Rattle.zr_world_spec.specs.World.{Tagged, EndState, RouterState, router_of, end_of, is_calm, unsettles}
+use Rattle.zr_world_spec.specs.World.{Tagged, EndState, RouterState, router_of, end_of, is_calm, unsettles, wire_at}
 use Rattle.zr_world_spec.specs.Acts.{number_to, outcome}
 use Rattle.zr_world_spec.specs.Moments.{Numbered, Moment, went, onward}
 use Rattle.zr_guarantee.specs.Item.{Sample, Query}
 use Rattle.zr_guarantee.specs.Phase.{stays, is_phase}
 use Rattle.zr_world_spec.proofs.Cases.{on_handle, interest_says, uninterest_says, publish_says, get_says, reply_says, end_says, for_handle, for_take, for_mark, for_show}
-use Rattle.zr_law_settled.proofs.Worlds.{wire_at}
 use Rattle.zr_law_declared.proofs.Folds.{after_all}
 use Rattle.zr_law_samples.proofs.Pair.{Pair, Flows, IsRouted, Agrees, AllAgree}
 use Rattle.zr_law_samples.proofs.Messages.{by_calm}

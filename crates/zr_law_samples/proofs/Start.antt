@@ -11,7 +11,7 @@ use Rattle.zr_tree.specs.Walk.{graph_of}
 use Rattle.zr_tree.specs.Tree.{reached}
 use Rattle.zr_local.specs.Rows.{declared_set}
 use Rattle.zr_log.specs.Known.{decls}
-use Rattle.zr_world_spec.specs.World.{Tagged, EndState, End, RouterState, ClientState, WorldState, router_of, client_of, end_of, is_up, is_unbroken, is_calm, is_calm_end, is_met, is_settled}
+use Rattle.zr_world_spec.specs.World.{Tagged, EndState, End, RouterState, ClientState, WorldState, router_of, client_of, end_of, is_up, is_unbroken, is_calm, is_calm_end, is_met, is_settled, wire_at}
 use Rattle.zr_world_spec.specs.Joined.{graph}
 use Rattle.zr_world_spec.specs.Moments.{Numbered, ascends, Moment}
 use Rattle.zr_guarantee.specs.Item.{Carried}
@@ -23,7 +23,7 @@ use Rattle.zr_world_spec.proofs.Ends.{end_order, same_end}
 use Rattle.zr_world_spec.proofs.Fits.{up_of}
 use Rattle.zr_lists.proofs.Tests.{filter_none_of_all, weaker, all_both}
 use Rattle.zr_law_samples.proofs.Places.{hops, along, bare}
-use Rattle.zr_law_settled.proofs.Worlds.{queue_at, wire_at}
+use Rattle.zr_law_settled.proofs.Worlds.{queue_at}
 use Rattle.zr_law_samples.proofs.Watch.{Passes}
 use Rattle.zr_law_samples.proofs.Pair.{Pair, items, fits, passes_down, held, OnWay, Between, Flows, IsRouted}
 use Rattle.zr_law_samples.proofs.Held.{foreign_wanted, foreign_kept}

@@ -14,7 +14,7 @@ use Rattle.zr_script_spec.specs.declared.command.Act.{Act}
 use Rattle.zr_script_spec.specs.declared.command.Act.TheVariants as c
 use Rattle.zr_script_spec.specs.declared.report.ReportLine.{ReportLine}
 use Rattle.zr_script_spec.specs.declared.report.ReportLine.TheVariants as line
-use Rattle.zr_world_spec.specs.World.{Tagged, EndState, End, Ends, ClientState, RouterState, Routers, Clients, with_routers, with_clients, is_end, router_of, client_of, with_router, end_of, with_end, sent, with_queue, unsettles, is_calm}
+use Rattle.zr_world_spec.specs.World.{Tagged, EndState, End, Ends, ClientState, RouterState, Routers, Clients, with_routers, with_clients, is_end, router_of, client_of, with_router, end_of, with_end, sent, with_queue, unsettles, is_calm, wire_at}
 use Rattle.zr_world_spec.specs.Joined.{graph}
 use Rattle.zr_world_spec.specs.Acts.{weighing, received, shown}
 use Rattle.zr_world_spec.specs.Moments.{Numbered, Moment}
@@ -28,7 +28,7 @@ use Rattle.zr_world_spec.proofs.Ends.{end_parts, same_end, read_with_end, keep_w
 use Rattle.zr_world_spec.proofs.Cases.{w_sent, Says, Weighs, on_take, on_mark, on_show}
 use Rattle.zr_lists.proofs.Tests.{all_both}
 use Rattle.zr_law_samples.proofs.Places.{Sent, Queue, Wire, Hop, hops, along, keeps, gains, handled, taken, written}
-use Rattle.zr_law_settled.proofs.Worlds.{queue_at, wire_at}
+use Rattle.zr_law_settled.proofs.Worlds.{queue_at}
 use Rattle.zr_law_settled.proofs.Ends.{other_end}
 use Rattle.zr_law_samples.proofs.Pushes.{names_tree}
 use Rattle.zr_law_samples.proofs.Watch.{shows_nothing}

@@ -7,14 +7,14 @@ use Rattle.std.proofs.lemmas.Bool.{or_left, or_right}
 use Rattle.zr_id.specs.Zid.{is_named}
 use Rattle.zr_msg.specs.declared.event.Event.{Event}
 use Rattle.zr_msg.specs.declared.msg.Msg.{Msg}
-use Rattle.zr_world_spec.specs.World.{Tagged, RouterState, End, Ends, router_of, end_of, is_calm}
+use Rattle.zr_world_spec.specs.World.{Tagged, RouterState, End, Ends, router_of, end_of, is_calm, wire_at}
 use Rattle.zr_world_spec.specs.Acts.{hearing, told_to, telling}
 use Rattle.zr_world_spec.specs.Moments.{Numbered, Moment}
 use Rattle.zr_world_spec.proofs.Ends.{read_waiting}
 use Rattle.zr_lists.proofs.Tests.{all_both, weaker}
 use Rattle.zr_world_spec.proofs.Telling.{is_told, told_alone, same_node, same_end_told}
 use Rattle.zr_guarantee.specs.Sent.{carried_by}
-use Rattle.zr_law_settled.proofs.Worlds.{queue_at, wire_at}
+use Rattle.zr_law_settled.proofs.Worlds.{queue_at}
 use Rattle.zr_law_samples.proofs.Held.{items_both, items_are, queue_adds}
 use Rattle.zr_law_samples.proofs.Pair.{Pair, items, all_tagged, wanted_of, kept_for, held, way, comes_down, passes_down, fits, idle_router, Flows}
 use Rattle.zr_law_samples.proofs.Places.{Spot, Sent, Queue, Wire, along}

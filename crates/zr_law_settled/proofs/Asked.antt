@@ -8,9 +8,8 @@ use Rattle.zr_local.specs.Rows.{refuses_undeclare}
 use Rattle.zr_local.specs.declared.error.LocalError.TheVariants.{UnknownId}
 use Rattle.zr_node_spec.specs.Tables.{link_to}
 use Rattle.zr_node_spec.specs.Table.{key_of}
-use Rattle.zr_world_spec.specs.World.{Tagged, RouterState, ClientState, EndState, WorldState, router_of, client_of, end_of, is_unbroken}
+use Rattle.zr_world_spec.specs.World.{Tagged, RouterState, ClientState, EndState, WorldState, router_of, client_of, end_of, is_unbroken, wire_at}
 use Rattle.zr_law_settled.proofs.Spreading.{Name}
-use Rattle.zr_law_settled.proofs.Worlds.{wire_at}
 use Rattle.zr_law_settled.proofs.Moving.{unbroken_at}
 use Rattle.zr_law_settled.proofs.Declaring.{IsAsked, AreAsked, has_rows}
 use Rattle.zr_law_settled.proofs.ClientRows.{ClientsHold}

@@ -1,13 +1,14 @@
 -- What is bounded by how many acts a world has taken: each router's own number, which steps leave as it is; and how many routers there are, at all.
-use Rattle.std.proofs.Common.{◌≡◌, ◌≤◌, ◌<◌, ◌+◌, ℕ, suc, Bool, true, false, cond, List, [], ◌∷◌, length, Option, Some, None, Ordering, Less, Equal, Greater, sym, ap, ◌∙◌, subst, arith}
+use Rattle.std.proofs.Common.{◌≡◌, ◌≤◌, ◌<◌, ◌+◌, ℕ, Bool, true, false, cond, List, [], length, Option, Some, None, sym, ap, ◌∙◌, subst, arith}
 use Rattle.std.specs.Prelude.{IfSome, unwrap_or}
 use Rattle.std.specs.BTreeMap.{insert_entry}
-use Rattle.std.specs.Ordering.{nat_cmp, match_ordering}
+use Rattle.std.specs.Ordering.{nat_cmp}
 use Rattle.std.specs.Cmp.Lexicographic.{slice_cmp}
 use Rattle.std.proofs.lemmas.Bool.{leb-false}
 use Rattle.std.proofs.lemmas.List.{length-map}
 use Rattle.std.proofs.lemmas.Map.{length-set_value}
 use Rattle.zr_lists.proofs.Options.{not_there}
+use Rattle.zr_lists.proofs.Entries.{length_inserted}
 use Rattle.zr_id.specs.Zid.{is_named}
 use Rattle.zr_msg.specs.declared.decl.Kind.TheVariants as k
 use Rattle.zr_msg.specs.declared.msg.Msg.TheVariants as m
@@ -49,21 +50,10 @@ bounded_set n m routers x r r' found le h new = record {
     by y q true k = let one : r' ≡ q = cc in subst (λ (s : RouterState). IsBounded m s.node.base) one new
     by y q false k = bounded_later n m q.node.base le (h.each y q k)
 
--- one more router
-length_inserted : {X : Type 0} (es : List (Name × X)) (k : Name) (v : X) → length (insert_entry (slice_cmp nat_cmp) es k v) ≤ length es + 1
-length_inserted [] k v = omega arith
-length_inserted (e ∷ es) k v = by (slice_cmp nat_cmp k e.0) (length_inserted es k v)
-  where
-    by : (o : Ordering) → length (insert_entry (slice_cmp nat_cmp) es k v) ≤ length es + 1 →
-        length (match_ordering o ((k, v) ∷ e ∷ es) ((e.0, v) ∷ es) (e ∷ insert_entry (slice_cmp nat_cmp) es k v)) ≤ suc (length es) + 1
-    by Less ih = omega arith
-    by Equal ih = omega arith
-    by Greater ih = omega (arith, ih)
-
 bounded_new : (n : ℕ) (routers : Routers) (id : Name) → router_of routers id ≡ None → length routers < most_routers → AreBounded n routers →
     AreBounded n (insert_entry (slice_cmp nat_cmp) routers id (new_router id))
 bounded_new n routers id free room h = record {
-  few = omega (arith, length_inserted routers id (new_router id), room);
+  few = omega (arith, length_inserted (slice_cmp nat_cmp) routers id (new_router id), room);
   each = λ y q there. by y q (is_named y id) (sym (value_new routers id y (new_router id) free) ∙ there);
 }
   where

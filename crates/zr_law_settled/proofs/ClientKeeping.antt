@@ -29,7 +29,7 @@ use Rattle.zr_node_spec.proofs.FreeLink.{free_is_free}
 use Rattle.zr_told_spec.specs.Place.{class_of}
 use Rattle.zr_told_spec.specs.declared.place.Class.{Class}
 use Rattle.zr_told_spec.specs.declared.place.Class.TheVariants.{Subscriber, Queryable, Living}
-use Rattle.zr_world_spec.specs.World.{Tagged, RouterState, EndState, ClientState, End, Ends, WorldState, with_clients, with_ends, new_client, with_client, router_of, client_of, end_of, is_end, put_end, with_end, with_queue, new_end, is_up, is_unbroken, is_taken, empty_world, lifted, lowered, sent, changed, unsettles, is_calm, is_calm_end, is_met, with_routers, with_router}
+use Rattle.zr_world_spec.specs.World.{Tagged, RouterState, EndState, ClientState, End, Ends, WorldState, with_clients, with_ends, new_client, with_client, router_of, client_of, end_of, is_end, put_end, with_end, with_queue, new_end, is_up, is_unbroken, is_taken, empty_world, lifted, lowered, sent, changed, unsettles, is_calm, is_calm_end, is_met, with_routers, with_router, wire_at}
 use Rattle.zr_world_spec.specs.Acts.{outcome, peer_of, hearing, sending, has_id, declaring, undeclaring, received, weighing, ids_of}
 use Rattle.zr_world_spec.specs.Moments.{Numbered, Moment, went, reached}
 use Rattle.zr_world_spec.specs.Moments as moments
@@ -45,7 +45,7 @@ use Rattle.zr_law_settled.specs.Rows.{SettledRowsAreOfClients}
 use Rattle.zr_law_settled.proofs.Told.{IsTold, told_there, told_some, told_up, told_unbroken, told_wire, router_was, of_each, w_client, w_down, w_handle, for_client, for_up, for_down, for_handle}
 use Rattle.zr_law_settled.proofs.Spreading.{Name}
 use Rattle.zr_law_settled.proofs.Moments.{at_moments}
-use Rattle.zr_law_settled.proofs.Worlds.{wire_at, there_heard, router_heard, up_heard, unbroken_heard, some_heard}
+use Rattle.zr_law_settled.proofs.Worlds.{there_heard, router_heard, up_heard, unbroken_heard, some_heard}
 use Rattle.zr_law_settled.proofs.Quiet.{no_end, passes_there}
 use Rattle.zr_law_settled.proofs.Moving.{up_at, unbroken_at}
 use Rattle.zr_law_settled.proofs.Keeping.{Stands, act_stands, empty_holds}

@@ -26,7 +26,7 @@ use Rattle.zr_node_spec.specs.Table.{with_link, without_link, after}
 use Rattle.zr_node_spec.proofs.LinksStay.{links_from}
 use Rattle.zr_told_spec.specs.declared.place.Class.{Class}
 use Rattle.zr_told_spec.specs.declared.place.Class.TheVariants.{Subscriber, Queryable, Living}
-use Rattle.zr_world_spec.specs.World.{Tagged, RouterState, EndState, ClientState, End, Ends, Clients, WorldState, with_routers, with_clients, with_ends, new_router, new_client, with_router, with_client, router_of, client_of, end_of, is_end, put_end, with_end, with_wire, with_queue, new_end, is_up, is_unbroken, is_taken, broken, sent, queued, changed}
+use Rattle.zr_world_spec.specs.World.{Tagged, RouterState, EndState, ClientState, End, Ends, Clients, WorldState, with_routers, with_clients, with_ends, new_router, new_client, with_router, with_client, router_of, client_of, end_of, is_end, put_end, with_end, with_wire, with_queue, new_end, is_up, is_unbroken, is_taken, broken, sent, queued, changed, wire_at}
 use Rattle.zr_world_spec.specs.Acts.{weighing, hearing, sending, sends_to}
 use Rattle.zr_world_spec.specs.Sound.{IsSound}
 use Rattle.zr_world_spec.proofs.Names.{value_new, read_kept, read_after}
@@ -36,7 +36,7 @@ use Rattle.zr_world_spec.proofs.Links as links
 use Rattle.zr_world_spec.proofs.Cases.{free_name}
 use Rattle.zr_world_spec.proofs.Clients.{SameClients, idle_client, client_was}
 use Rattle.zr_law_settled.proofs.Spreading.{Name}
-use Rattle.zr_law_settled.proofs.Worlds.{there_in, wire_at}
+use Rattle.zr_law_settled.proofs.Worlds.{there_in}
 use Rattle.zr_law_settled.proofs.Quiet.{passes_there}
 use Rattle.zr_law_settled.proofs.Moving.{up_at, unbroken_at}
 use Rattle.zr_law_settled.proofs.Links.{AreKnown, linked_to, is_at}

@@ -26,7 +26,7 @@ use Rattle.zr_node_spec.specs.Tables.{is_link, link_at, link_to, free_link}
 use Rattle.zr_node_spec.specs.State.{new_link}
 use Rattle.zr_node_spec.specs.Table.{able_kind, rows_left, with_link, without_link, after, refuses}
 use Rattle.zr_node_spec.proofs.FreeLink.{free_is_free}
-use Rattle.zr_world_spec.specs.World.{Tagged, RouterState, EndState, End, Ends, WorldState, with_routers, with_ends, new_router, with_router, router_of, end_of, is_end, put_end, with_end, with_queue, new_end, is_up, is_unbroken, is_taken, empty_world, lifted, lowered, broken, sent, changed}
+use Rattle.zr_world_spec.specs.World.{Tagged, RouterState, EndState, End, Ends, WorldState, with_routers, with_ends, new_router, with_router, router_of, end_of, is_end, put_end, with_end, with_queue, new_end, is_up, is_unbroken, is_taken, empty_world, lifted, lowered, broken, sent, changed, wire_at}
 use Rattle.zr_world_spec.specs.Acts.{outcome, weighing, peer_of, sending}
 use Rattle.zr_world_spec.specs.Moments.{Moment, went}
 use Rattle.zr_world_spec.specs.Sound.{IsSound, AreUnique}
@@ -39,7 +39,7 @@ use Rattle.zr_world_spec.proofs.Cases.{w_sent, free_name, number_found, for_rout
 use Rattle.zr_law_settled.proofs.Told.{IsTold, by_told, reads, told_there, told_unbroken, told_way, w_client, w_down, w_handle, for_client, for_up, for_down, for_handle}
 use Rattle.zr_law_settled.proofs.Spreading.{Name, best, Known}
 use Rattle.zr_law_settled.proofs.Records.{notes_in}
-use Rattle.zr_law_settled.proofs.Worlds.{there_in, table_of, queue_at, wire_at, notes, way_of, notes-append, Holds, unbroken_heard}
+use Rattle.zr_law_settled.proofs.Worlds.{there_in, table_of, queue_at, notes, way_of, notes-append, Holds, unbroken_heard}
 use Rattle.zr_law_settled.proofs.Quiet.{no_end, passes_there, turned_is}
 use Rattle.zr_law_settled.proofs.Moving.{up_at, unbroken_at, both_ways, lifted_way, moves_kept, joined_moves}
 use Rattle.zr_law_settled.proofs.Passing.{says, keep_taken, taken_same, emptied_same, keep_emptied}

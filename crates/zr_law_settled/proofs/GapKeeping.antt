@@ -16,7 +16,7 @@ use Rattle.zr_node_spec.specs.Tables.{link_at, link_to, is_router, is_to_child, 
 use Rattle.zr_node_spec.specs.State.{tables}
 use Rattle.zr_node_spec.specs.Table.{sends, after, refuses}
 use Rattle.zr_node_spec.proofs.LinksStay.{links_from}
-use Rattle.zr_world_spec.specs.World.{Tagged, RouterState, EndState, End, Ends, WorldState, with_ends, router_of, end_of, is_end, is_up, is_unbroken, with_end, with_wire}
+use Rattle.zr_world_spec.specs.World.{Tagged, RouterState, EndState, End, Ends, WorldState, with_ends, router_of, end_of, is_end, is_up, is_unbroken, with_end, with_wire, wire_at}
 use Rattle.zr_world_spec.specs.Acts.{hearing, sending}
 use Rattle.zr_world_spec.specs.Sound.{IsSound}
 use Rattle.zr_world_spec.proofs.Names.{names, read_after}
@@ -24,7 +24,7 @@ use Rattle.zr_world_spec.proofs.Ends.{end_parts, same_end}
 use Rattle.zr_world_spec.proofs.Links.{named_link, numbered_link}
 use Rattle.zr_law_settled.proofs.Spreading.{at_name, Name, Known, Note, own, best, best_append}
 use Rattle.zr_law_settled.proofs.Links.{linked_to, leads_is}
-use Rattle.zr_law_settled.proofs.Worlds.{there_in, queue_at, wire_at, notes, way_of, feeds_of, Holds, sent_at, way_sent, way_other, unbroken_heard, there_heard}
+use Rattle.zr_law_settled.proofs.Worlds.{there_in, queue_at, notes, way_of, feeds_of, Holds, sent_at, way_sent, way_other, unbroken_heard, there_heard}
 use Rattle.zr_law_settled.proofs.Moving.{unbroken_at}
 use Rattle.zr_law_settled.proofs.Passing.{popped_way, keep_popped}
 use Rattle.zr_law_settled.proofs.Changes.{links_known}

@@ -11,13 +11,13 @@ use Rattle.zr_msg.specs.declared.msg.Msg.TheVariants.{Sub, Unsub, Token, Untoken
 use Rattle.zr_msg.specs.declared.peer.LinkPeer.{LinkPeer}
 use Rattle.zr_log.specs.Known.{is_gap}
 use Rattle.zr_node_spec.specs.Tables.{is_router, link_to, leads_to_router, leads_to_client}
-use Rattle.zr_world_spec.specs.World.{Tagged, RouterState, ClientState, EndState, WorldState, router_of, client_of, end_of, is_empty, is_unbroken}
+use Rattle.zr_world_spec.specs.World.{Tagged, RouterState, ClientState, EndState, WorldState, router_of, client_of, end_of, is_empty, is_unbroken, wire_at}
 use Rattle.zr_world_spec.specs.Sound.{IsSound}
 use Rattle.zr_world_spec.proofs.Keyed.{there}
 use Rattle.zr_law_settled.specs.Events.{RequestsAreTaken}
 use Rattle.zr_law_settled.proofs.Spreading.{Name}
 use Rattle.zr_law_settled.proofs.Links.{AreKnown, linked_to, is_at, leads_is}
-use Rattle.zr_law_settled.proofs.Worlds.{there_in, queue_at, wire_at, notes}
+use Rattle.zr_law_settled.proofs.Worlds.{there_in, queue_at, notes}
 use Rattle.zr_law_settled.proofs.Changes.{links_known}
 use Rattle.zr_law_settled.proofs.Logs.{knows_logs, logs_of}
 use Rattle.zr_law_settled.proofs.Values.{brings}

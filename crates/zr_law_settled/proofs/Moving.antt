@@ -4,11 +4,11 @@ use Rattle.std.specs.Prelude.{◌&&◌, ◌||◌}
 use Rattle.std.specs.Option.{option_map, option_map_or}
 use Rattle.std.proofs.lemmas.Bool.{true≢false, false≢true, and_parts, and_from, or_parts}
 use Rattle.zr_msg.specs.declared.msg.Msg.{Msg}
-use Rattle.zr_world_spec.specs.World.{EndState, End, Ends, WorldState, with_ends, end_of, is_end, is_up, is_unbroken, is_in_place, new_end, with_end, put_end, changed, broken, lifted, sent}
+use Rattle.zr_world_spec.specs.World.{EndState, End, Ends, WorldState, with_ends, end_of, is_end, is_up, is_unbroken, is_in_place, new_end, with_end, put_end, changed, broken, lifted, sent, wire_at}
 use Rattle.zr_world_spec.proofs.Ends.{same_end, read_with_end, keep_with_end, read_put_end, keep_put_end, read_changed, keep_changed}
 use Rattle.zr_law_settled.proofs.Spreading.{Name, Known, Note, best, IsPart, is_all}
 use Rattle.zr_law_settled.proofs.Records.{notes_in}
-use Rattle.zr_law_settled.proofs.Worlds.{there_in, table_of, queue_at, wire_at, notes, way_of, feeds_of, up_weight_at, up_weight, HasTwins, Holds, notes-append}
+use Rattle.zr_law_settled.proofs.Worlds.{there_in, table_of, queue_at, notes, way_of, feeds_of, up_weight_at, up_weight, HasTwins, Holds, notes-append}
 use Rattle.zr_law_settled.proofs.Quiet.{quiet_kept, turned_is, same_way}
 
 -- readings of one end

@@ -23,7 +23,7 @@ use Rattle.zr_node_spec.specs.Tables.{link_to}
 use Rattle.zr_node_spec.specs.State.{NodeState}
 use Rattle.zr_msg.specs.declared.peer.LinkPeer.{LinkPeer}
 use Rattle.zr_node_spec.specs.Table.{able_kind, sends, after}
-use Rattle.zr_world_spec.specs.World.{Tagged, EndState, End, Ends, ClientState, RouterState, WorldState, is_end, turned, router_of, client_of, end_of, is_taken, with_router, with_end, put_end, changed, queued, sent, broken, lifted, lowered, with_wire, with_queue, new_router, new_client, new_end, is_empty, empty_world}
+use Rattle.zr_world_spec.specs.World.{Tagged, EndState, End, Ends, ClientState, RouterState, WorldState, is_end, turned, router_of, client_of, end_of, is_taken, with_router, with_end, put_end, changed, queued, sent, broken, lifted, lowered, with_wire, with_queue, new_router, new_client, new_end, is_empty, empty_world, wire_at}
 use Rattle.zr_world_spec.specs.Acts.{sends_to, all_queued, hearing, peer_of, up_event, declare_step, undeclare_step, received, outcome}
 use Rattle.zr_world_spec.specs.Moments.{Moment, went}
 use Rattle.zr_world_spec.specs.Sound.{IsSound}
@@ -33,7 +33,7 @@ use Rattle.zr_world_spec.proofs.Fits.{up_of}
 use Rattle.zr_world_spec.proofs.Clients.{there_same, same_received}
 use Rattle.zr_world_spec.proofs.Cases.{free_name, on_router, on_link, on_break, on_take, for_router, for_link, for_break, for_declare, for_undeclare, Says, publish_says, get_says, reply_says, end_says, for_take, for_mark, for_show, Weighs, interest_says, uninterest_says}
 use Rattle.zr_law_settled.proofs.Told.{IsTold, is_near, if_sound, end_reads, told_there, on_client, on_up, on_down, on_handle, for_client, for_up, for_down, for_handle}
-use Rattle.zr_law_settled.proofs.Worlds.{there_in, queue_at, wire_at}
+use Rattle.zr_law_settled.proofs.Worlds.{there_in, queue_at}
 use Rattle.zr_law_settled.proofs.Quiet.{turned_is}
 use Rattle.zr_law_settled.proofs.Moving.{unbroken_at}
 

@@ -7,14 +7,14 @@ use Rattle.zr_lists.proofs.Options.{not_there}
 use Rattle.zr_id.specs.Zid.{is_named}
 use Rattle.zr_graph.specs.Base.{IsInOrder}
 use Rattle.zr_msg.specs.declared.msg.Msg.{Msg}
-use Rattle.zr_world_spec.specs.World.{Tagged, RouterState, EndState, End, Ends, WorldState, with_routers, with_ends, router_of, with_router, end_of, is_end, is_up, is_unbroken, with_end, with_queue, with_wire, changed, lowered, sent}
+use Rattle.zr_world_spec.specs.World.{Tagged, RouterState, EndState, End, Ends, WorldState, with_routers, with_ends, router_of, with_router, end_of, is_end, is_up, is_unbroken, with_end, with_queue, with_wire, changed, lowered, sent, wire_at}
 use Rattle.zr_msg.specs.declared.event.Event.{Event}
 use Rattle.zr_world_spec.specs.Acts.{weighing, sends_to, sending}
 use Rattle.zr_world_spec.proofs.Names.{read_kept, read_after}
 use Rattle.zr_world_spec.proofs.Ends.{same_end, read_with_end, keep_with_end, read_changed, keep_changed}
 use Rattle.zr_law_settled.proofs.Spreading.{at_name, Name, Known, Note, best, IsPart, is_all, best_append}
 use Rattle.zr_law_settled.proofs.Records.{notes_in}
-use Rattle.zr_law_settled.proofs.Worlds.{there_in, knows, table_of, queue_at, wire_at, notes, way_of, up_weight_at, up_weight, HasTwins, Holds, notes-append, sent_at, way_sent, way_other}
+use Rattle.zr_law_settled.proofs.Worlds.{there_in, knows, table_of, queue_at, notes, way_of, up_weight_at, up_weight, HasTwins, Holds, notes-append, sent_at, way_sent, way_other}
 use Rattle.zr_law_settled.proofs.Quiet.{quiet_kept, turned_is, same_way}
 use Rattle.zr_law_settled.proofs.Moving.{up_at, unbroken_at, Moves, both_ways}
 

@@ -14,14 +14,14 @@ use Rattle.zr_tree.specs.Walk.{IsWalk}
 use Rattle.zr_lists.proofs.Finds.{find_in}
 use Rattle.zr_msg.specs.declared.msg.Msg.{Msg}
 use Rattle.zr_msg.specs.declared.msg.Msg.TheVariants.{Sub, Unsub, Token, Untoken, Able, Unable, Interest, EndInterest, ToldSub, ToldAble, ToldUnsub, ToldToken, ToldUntoken, ToldUnable, ToldEnd, Push, Request, Response, Final, State, Step, Snap}
-use Rattle.zr_world_spec.specs.World.{Tagged, RouterState, EndState, End, Ends, WorldState, end_weight, router_of, end_of, is_up, is_unbroken, is_linked, unsettles, is_calm, is_calm_end, is_met, is_settled}
+use Rattle.zr_world_spec.specs.World.{Tagged, RouterState, EndState, End, Ends, WorldState, end_weight, router_of, end_of, is_up, is_unbroken, is_linked, unsettles, is_calm, is_calm_end, is_met, is_settled, wire_at}
 use Rattle.zr_world_spec.specs.Joined.{linked_weight, graph}
 use Rattle.zr_world_spec.specs.Sound.{IsSound}
 use Rattle.zr_world_spec.proofs.Ends.{end_passes}
 use Rattle.zr_law_settled.specs.Tables.{TablesAgree}
 use Rattle.zr_law_settled.proofs.Spreading.{Name, Known, Note, level}
 use Rattle.zr_law_settled.proofs.Records.{Links, known, known_of, notes_in}
-use Rattle.zr_law_settled.proofs.Worlds.{there_in, knows, table_of, queue_at, wire_at, notes, way_of, lane_of, feeds_of, up_weight_at, up_weight, Holds}
+use Rattle.zr_law_settled.proofs.Worlds.{there_in, knows, table_of, queue_at, notes, way_of, lane_of, feeds_of, up_weight_at, up_weight, Holds}
 use Rattle.zr_law_settled.proofs.Quiet.{passes_there}
 use Rattle.zr_law_settled.proofs.UpEnds.{met_settled}
 

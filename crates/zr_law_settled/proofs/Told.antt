@@ -29,7 +29,7 @@ use Rattle.zr_node_spec.specs.State.{NodeState, tables}
 use Rattle.zr_node_spec.specs.Table.{after, refuses}
 use Rattle.zr_told_spec.specs.Hub.{sends_told}
 use Rattle.zr_told_spec.specs.Rows.{map_on}
-use Rattle.zr_world_spec.specs.World.{Tagged, RouterState, EndState, End, Ends, WorldState, with_clients, with_ends, with_router, router_of, end_of, is_end, is_up, is_unbroken, with_end, put_end, changed, queued, with_wire, lifted, lowered, new_end, new_client, is_taken, most_clients, end_cmp}
+use Rattle.zr_world_spec.specs.World.{Tagged, RouterState, EndState, End, Ends, WorldState, with_clients, with_ends, with_router, router_of, end_of, is_end, is_up, is_unbroken, with_end, put_end, changed, queued, with_wire, lifted, lowered, new_end, new_client, is_taken, most_clients, end_cmp, wire_at}
 use Rattle.zr_world_spec.specs.Acts.{hearing, having_told, told_to, telling, sending, up_event, peer_of, number_to, client_step, up_step, down_step, handle_step, waiting}
 use Rattle.zr_world_spec.specs.Moments.{Moment, went}
 use Rattle.zr_world_spec.specs.Sound.{IsSound}
@@ -39,7 +39,7 @@ use Rattle.zr_world_spec.proofs.Fits.{up_of, alike_sound}
 use Rattle.zr_world_spec.proofs.Telling.{is_told, told_alone, same_names_told, same_node}
 use Rattle.zr_world_spec.proofs.Cases as cases
 use Rattle.zr_law_settled.proofs.Spreading.{Name, Note}
-use Rattle.zr_law_settled.proofs.Worlds.{there_in, feeds_of, queue_at, wire_at, notes, way_of, up_weight_at, up_weight, notes-append}
+use Rattle.zr_law_settled.proofs.Worlds.{there_in, feeds_of, queue_at, notes, way_of, up_weight_at, up_weight, notes-append}
 use Rattle.zr_law_settled.proofs.Moving.{up_at, unbroken_at, both_ways}
 
 -- ---- told messages

@@ -13,7 +13,7 @@ use Rattle.zr_graph.proofs.Names.{same_is, same_refl}
 use Rattle.zr_msg.specs.declared.msg.Msg.{Msg}
 use Rattle.zr_msg.specs.declared.event.Event.{Event}
 use Rattle.zr_node_spec.specs.Table.{after}
-use Rattle.zr_world_spec.specs.World.{Tagged, RouterState, EndState, End, Ends, WorldState, router_of, end_of, is_up, is_unbroken, queued}
+use Rattle.zr_world_spec.specs.World.{Tagged, RouterState, EndState, End, Ends, WorldState, router_of, end_of, is_up, is_unbroken, queued, wire_at}
 use Rattle.zr_world_spec.specs.Acts.{sends_to, all_queued, hearing, sending}
 use Rattle.zr_world_spec.proofs.Names.{read_after}
 use Rattle.zr_world_spec.proofs.Ends.{read_all_queued, keep_all_queued}
@@ -39,10 +39,6 @@ table_of w x z = knows (router_of w.routers x) z
 abbrev pub queue_at : Option EndState → List Tagged
 queue_at None = []
 queue_at (Some s) = s.queue
-
-abbrev pub wire_at : Option EndState → List Tagged
-wire_at None = []
-wire_at (Some s) = s.wire
 
 -- what its link weighs at an end that is up, and nothing at another one
 abbrev pub up_weight_at : Option EndState → ℕ

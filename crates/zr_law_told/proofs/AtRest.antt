@@ -43,7 +43,7 @@ use Rattle.zr_told_spec.specs.Told.{ToldMap, Heard, at, heard as leave}
 use Rattle.zr_told_spec.specs.Wanted.{fits, told_as, asked, wants, is_complete_at, want}
 use Rattle.zr_told_spec.specs.declared.entry.Entry.{Entry}
 use Rattle.zr_told_spec.specs.declared.place.Place.{Place}
-use Rattle.zr_world_spec.specs.World.{RouterState, ClientState, EndState, End, Ends, WorldState, router_of, client_of, end_of, is_up, is_unbroken, is_empty, is_idle, is_quiet, is_settled}
+use Rattle.zr_world_spec.specs.World.{RouterState, ClientState, EndState, End, Ends, WorldState, router_of, client_of, end_of, is_up, is_unbroken, is_empty, is_idle, is_quiet, is_settled, wire_at}
 use Rattle.zr_world_spec.specs.Joined.{graph, is_joined}
 use Rattle.zr_world_spec.specs.Moments.{Numbered, Moment}
 use Rattle.zr_world_spec.specs.Moments as moments
@@ -56,7 +56,7 @@ use Rattle.zr_guarantee.specs.Names.{clients}
 use Rattle.zr_guarantee.specs.Interests.{interests, declared, declared_by_others, told_so_far, TellsWanted, AreTold as ClientsTold, is_at_rest, ClientsAreTold}
 use Rattle.zr_guarantee.specs.Scripts.{LinesTellClients}
 use Rattle.zr_law_settled.proofs.Spreading.{Name}
-use Rattle.zr_law_settled.proofs.Worlds.{there_in, queue_at, wire_at}
+use Rattle.zr_law_settled.proofs.Worlds.{there_in, queue_at}
 use Rattle.zr_law_settled.proofs.Positions.{each_found, logs_found}
 use Rattle.zr_law_settled.proofs.Rest.{router_of_end}
 use Rattle.zr_law_settled.proofs.Order.{Ascend, routers_ascend}

@@ -16,13 +16,14 @@ use Rattle.zr_msg.specs.declared.event.Event.TheVariants.{Down, From}
 use Rattle.zr_msg.specs.declared.msg.Msg.{Msg}
 use Rattle.zr_msg.specs.declared.msg.Msg.TheVariants.{Sub, Unsub, Token, Untoken, Able, Unable, Interest, EndInterest, ToldSub, ToldAble, ToldUnsub, ToldToken, ToldUntoken, ToldUnable, ToldEnd, Push, Request, Response, Final, State, Step, Snap}
 use Rattle.zr_lists.specs.Ascending.{at_key, has_key, before_key, behind_key, put, without}
-use Rattle.zr_lists.proofs.Puts.{at-put, at-without, has_at}
+use Rattle.zr_lists.proofs.Puts.{at-put, has_at}
 use Rattle.zr_lists.proofs.Numbers.{nat_eq_is}
 use Rattle.zr_lists.proofs.Order.{nat_order}
 use Rattle.zr_local.specs.Clients.{client_link, interests_on, with_interests, noted, clients_left}
 use Rattle.zr_local.specs.Interests.{interest_id}
 use Rattle.zr_local.specs.declared.interest.ClientInterests.{ClientInterests}
 use Rattle.zr_local.specs.declared.interest.Interest.{Interest as LiveInterest}
+use Rattle.zr_local.proofs.LeftInterests.{left_is}
 use Rattle.zr_node_spec.specs.Queries.{link_no}
 use Rattle.zr_node_spec.specs.Tables.{leads_to_client}
 use Rattle.zr_node_spec.specs.State.{NodeState}
@@ -108,16 +109,6 @@ module _ (cs : List ClientInterests) (link : LinkNo) where
       by : (b : Bool) → interests_on (cond b (with_interests cs link rest) cs) k ≡ interests_on cs k
       by true = with_there rest k other
       by false = refl
-
-left_is : (cs : List ClientInterests) (link k : ℕ) → interests_on (clients_left cs link) k ≡ cond (link == k) [] (interests_on cs k)
-left_is cs link k =
-    ap (λ o. option_map_or (λ c. c.interests) o []) (at-without nat_cmp client_link nat_order cs link k)
-    ∙ ap (λ b. option_map_or (λ c. c.interests) (cond b None (at_key nat_cmp client_link cs k)) []) (nat_eq_is link k)
-    ∙ by (link == k)
-  where
-    by : (b : Bool) → option_map_or (λ c. c.interests) (cond b None (at_key nat_cmp client_link cs k)) [] ≡ cond b [] (interests_on cs k)
-    by true = refl
-    by false = refl
 
 -- ---- a router hears
 

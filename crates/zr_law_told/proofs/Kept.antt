@@ -1,7 +1,6 @@
 -- A router keeps interests of the links that lead to its clients alone (`AreKept`), and each event leaves it so.
 use Rattle.std.proofs.Common.{◌≡◌, ℕ, Bool, true, false, cond, not, List, [], Option, Some, None, refl, sym, ap, ◌∙◌}
 use Rattle.std.specs.Prelude.{◌==◌, ◌&&◌}
-use Rattle.std.specs.Option.{option_map_or}
 use Rattle.std.proofs.lemmas.Bool.{true≢false, false_from_ne_true, eqb-true}
 use Rattle.zr_id.specs.declared.link.LinkNo.{LinkNo}
 use Rattle.zr_lists.proofs.Finds.{find_in}
@@ -11,19 +10,17 @@ use Rattle.zr_msg.specs.declared.msg.Msg.{Msg}
 use Rattle.zr_msg.specs.declared.peer.LinkPeer.{LinkPeer}
 use Rattle.zr_msg.specs.Peer.{PeerState}
 use Rattle.zr_local.specs.Clients.{interests_on}
-use Rattle.zr_node_spec.specs.Tables.{is_link, is_router, link_at, link_to, free_link, leads_to_client}
+use Rattle.zr_node_spec.specs.Tables.{is_link, link_at, link_to, free_link, leads_to_client}
 use Rattle.zr_node_spec.specs.State.{NodeState, new_link}
 use Rattle.zr_node_spec.specs.Table.{without_link, after}
 use Rattle.zr_node_spec.proofs.FreeLink.{free_is_free}
 use Rattle.zr_node_spec.proofs.LinksStay.{links_from}
+use Rattle.zr_node_spec.proofs.Links.{is_client}
 use Rattle.zr_world_spec.specs.World.{RouterState}
 use Rattle.zr_world_spec.specs.Acts.{up_event}
 use Rattle.zr_world_spec.specs.Sound.{AreUnique}
 use Rattle.zr_world_spec.proofs.Links.{kept, link_at_with, link_at_without}
 use Rattle.zr_law_told.proofs.Interests.{heard_there, down_is}
-
-abbrev is_client : Option LinkPeer → Bool
-is_client o = option_map_or (λ l. not (is_router l.peer.role)) o false
 
 abbrev pub AreKept : NodeState → Type 0
 AreKept n = (k : ℕ) → leads_to_client n.links k ≡ false → interests_on n.clients k ≡ []

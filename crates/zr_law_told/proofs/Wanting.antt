@@ -26,7 +26,7 @@ use Rattle.zr_node_spec.specs.State.{new_link}
 use Rattle.zr_node_spec.specs.Table.{after}
 use Rattle.zr_node_spec.proofs.FreeLink.{free_is_free}
 use Rattle.zr_node_spec.proofs.LinksStay.{links_from}
-use Rattle.zr_world_spec.specs.World.{Tagged, RouterState, EndState, ClientState, End, Ends, Routers, Clients, WorldState, with_routers, with_clients, with_ends, router_of, client_of, end_of, is_end, new_router, new_client, new_end, put_end, with_end, with_wire, lifted, lowered, sent, is_unbroken, is_taken}
+use Rattle.zr_world_spec.specs.World.{Tagged, RouterState, EndState, ClientState, End, Ends, Routers, Clients, WorldState, with_routers, with_clients, with_ends, router_of, client_of, end_of, is_end, new_router, new_client, new_end, put_end, with_end, with_wire, lifted, lowered, sent, is_unbroken, is_taken, wire_at}
 use Rattle.zr_world_spec.specs.Acts.{having_told, heard, up_event, peer_of}
 use Rattle.zr_world_spec.specs.Moments.{Numbered}
 use Rattle.zr_world_spec.specs.Sound.{IsSound}
@@ -35,7 +35,6 @@ use Rattle.zr_world_spec.proofs.Names.{names, value_new, read_after, read_kept}
 use Rattle.zr_world_spec.proofs.Ends.{ends, read_with_end, keep_with_end, read_put_end, keep_changed}
 use Rattle.zr_world_spec.proofs.Cases.{w_client, w_up, w_down, w_handle, w_sent, free_name}
 use Rattle.zr_law_settled.proofs.Spreading.{Name}
-use Rattle.zr_law_settled.proofs.Worlds.{wire_at}
 use Rattle.zr_law_settled.proofs.Moving.{unbroken_at}
 use Rattle.zr_law_settled.proofs.Ends.{other_end}
 use Rattle.zr_law_settled.proofs.ClientRows.{ClientsHold, EndsStay}

@@ -1,6 +1,7 @@
 pub mod Cutting
 pub mod Each
 pub mod Elements
+pub mod Entries
 pub mod Filters
 pub mod Finds
 pub mod Numbers

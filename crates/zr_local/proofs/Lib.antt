@@ -5,5 +5,6 @@ pub mod Changed
 pub mod Steps
 pub mod Leads
 pub mod Left
+pub mod LeftInterests
 pub mod Live
 pub mod Held

@@ -21,7 +21,7 @@ use Rattle.zr_world_spec.specs.Acts.{Outcome, outcome}
 use Rattle.zr_world_spec.specs.Fan.{kinds_of, most_fan_steps, fanned}
 use Rattle.zr_world_spec.specs.Next.{Done, next, run_steps, all_done, fan_steps, fan_step, booking, book_step}
 use Rattle.zr_world_spec.specs.Run.{on_line}
-use Rattle.zr_world_spec.specs.Moments.{Numbered, Moment, is_step, went, onward}
+use Rattle.zr_world_spec.specs.Moments.{Numbered, Moment, is_step, went, onward, then_at}
 use Rattle.zr_world_spec.specs.Accepted.{entries, accepted_from}
 use Rattle.zr_world_spec.proofs.Counting.{recounted, outcome_recounted, steps_recounted}
 use Rattle.zr_world_spec.proofs.Next.{none_left, one_more}
@@ -233,9 +233,6 @@ keeps_twice w v u a b = record {
   taken = λ q there. b.taken q (a.taken q there);
 }
 
-abbrev moved_to : Moment → List ReportLine × WorldState → Moment
-moved_to m x = record { world = x.1; report = m.report ++ x.0 }
-
 one_step : (line : ℕ) (act : Act) (m : Moment) → is_step act ≡ true → IfSome (went m (outcome m.world line act)) (Steps m)
 one_step line act m ok = by (outcome m.world line act) (act_keeps m line act) (λ h. step_marks_none m h line act ok)
   where
@@ -243,7 +240,7 @@ one_step line act m ok = by (outcome m.world line act) (act_keeps m line act) (�
     by (Err e) g k = tt
     by (Ok x) g k = record { names = g.names; known = λ h. known_stay m.world x.1 g.names (m.report ++ x.0) (g.known h); marks = k }
 
-after_steps : (line : ℕ) (several : List Act) (m : Moment) → list_all is_step several ≡ true → IfOk (all_done m.world line several) (λ x. Steps m (moved_to m x))
+after_steps : (line : ℕ) (several : List Act) (m : Moment) → list_all is_step several ≡ true → IfOk (all_done m.world line several) (λ x. Steps m (then_at m x))
 after_steps line [] m ok = record {
   names = same_names m.world m.world (λ q. refl) (λ q. refl);
   known = λ h. ap (list_all (is_known m.world)) (append-nil m.report) ∙ h;
@@ -253,12 +250,12 @@ after_steps line (act ∷ more) m ok =
     let parts = and_parts (is_step act) (list_all is_step more) ok in
     by (outcome m.world line act) (one_step line act m parts.0) (λ n. after_steps line more n parts.1)
   where
-    by : (o : Outcome) → IfSome (went m o) (Steps m) → ((n : Moment) → IfOk (all_done n.world line more) (λ x. Steps n (moved_to n x))) →
-        IfOk (o >>= (λ x. all_done x.1 line more >>= (said_first x.0))) (λ x. Steps m (moved_to m x))
+    by : (o : Outcome) → IfSome (went m o) (Steps m) → ((n : Moment) → IfOk (all_done n.world line more) (λ x. Steps n (then_at n x))) →
+        IfOk (o >>= (λ x. all_done x.1 line more >>= (said_first x.0))) (λ x. Steps m (then_at m x))
     by (Err e) g ih = tt
-    by (Ok x) g ih = at (all_done x.1 line more) (ih (moved_to m x))
+    by (Ok x) g ih = at (all_done x.1 line more) (ih (then_at m x))
       where
-        at : (d : Done) → IfOk d (λ y. Steps (moved_to m x) (moved_to (moved_to m x) y)) → IfOk (d >>= (said_first x.0)) (λ y. Steps m (moved_to m y))
+        at : (d : Done) → IfOk d (λ y. Steps (then_at m x) (then_at (then_at m x) y)) → IfOk (d >>= (said_first x.0)) (λ y. Steps m (then_at m y))
         at (Err e) k = tt
         at (Ok y) k = subst (λ (r : List ReportLine). Steps m (record { world = y.1; report = r })) (append_assoc m.report x.0 y.0)
             (record { names = keeps_twice m.world x.1 y.1 g.names k.names; known = λ h. k.known (g.known h); marks = λ h. k.marks (g.marks h) })
@@ -281,7 +278,7 @@ fan_counts k m report u applies counts = record {
     same (Some x) = refl
 
     at_done : (n : Moment) → IsCounted k n → (y : List ReportLine × WorldState) → all_done n.world k.number (fan_steps k.number n.world) ≡ Ok y →
-        m.world.state ≡ with_booked y.1 k.world.state.booked → report ≡ fanned y.1.routers y.0 ∷ [] → IsCounted m (moved_to n y)
+        m.world.state ≡ with_booked y.1 k.world.state.booked → report ≡ fanned y.1.routers y.0 ∷ [] → IsCounted m (then_at n y)
     at_done n is y done state lines = record {
       world_is = state ∙ ap (with_booked y.1) (sym (ap (λ (z : WorldState). z.booked) state));
       counts_are = subst (λ (o : Option Counts). IfSome o (λ x. x ≡ all_capped (counts_of after))) (sym counts) (all k.counts is.counts_are);
@@ -289,19 +286,19 @@ fan_counts k m report u applies counts = record {
     }
       where
         after : Moment
-        after = moved_to n y
+        after = then_at n y
 
         acts_are : list_all is_step (fan_steps k.number n.world) ≡ true
         acts_are = all_steps k.number most_fan_steps n.world
 
         steps : Steps n after
-        steps = subst (λ (d : Done). IfOk d (λ x. Steps n (moved_to n x))) done (after_steps k.number (fan_steps k.number n.world) n acts_are)
+        steps = subst (λ (d : Done). IfOk d (λ x. Steps n (then_at n x))) done (after_steps k.number (fan_steps k.number n.world) n acts_are)
 
         bare : Moment
         bare = record { world = n.world; report = [] }
 
         none : count_by tells_mark y.0 ≡ 0
-        none = (subst (λ (d : Done). IfOk d (λ x. Steps bare (moved_to bare x))) done (after_steps k.number (fan_steps k.number n.world) bare acts_are)).marks refl
+        none = (subst (λ (d : Done). IfOk d (λ x. Steps bare (then_at bare x))) done (after_steps k.number (fan_steps k.number n.world) bare acts_are)).marks refl
 
         together : plus (counts_of n) (counts_in y.1.routers y.0) ≡ counts_of after
         together = ap (λ z. plus z (counts_in y.1.routers y.0)) (sym (counts_stay n.world y.1 steps.names n.report is.known)) ∙ sym (counts_append y.1.routers n.report y.0)
@@ -321,7 +318,7 @@ fan_counts k m report u applies counts = record {
         let acts_are = ap (λ w. fold onward (Some n) (map (λ a. (k.number, a)) (fan_steps k.number w))) is.world_is
         ∙ ap (λ several. fold onward (Some n) (map (λ a. (k.number, a)) several)) (steps_recounted k.number most_fan_steps n.world k.world.state.booked)
         ∙ acts_lead (fan_steps k.number n.world) k.number n ∙ ap (made n) led.1 in (
-          moved_to n led.0,
+          then_at n led.0,
           acts_are,
           at_done n is led.0 led.1
               (ap (λ (z : Living). z.state) h.0.0 ∙ ap (λ (z : List ReportLine × WorldState). z.1) led.2) (h.0.1 ∙ ap (λ (z : List ReportLine × WorldState). z.0) led.2),

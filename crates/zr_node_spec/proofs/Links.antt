@@ -1,5 +1,5 @@
 -- The links of a router in ascending order of their numbers: which is found under a number.
-use Rattle.std.proofs.Common.{◌≡◌, ℕ, ◌<◌, ◌≤◌, ◌==◌, ◌&&◌, nat_lt, not, Bool, true, false, cond, List, [], ◌∷◌, ◌++◌, Some, None, Less, Equal, map, filter, append_assoc, refl, sym, ap, subst, ◌∙◌, arith}
+use Rattle.std.proofs.Common.{◌≡◌, ℕ, ◌<◌, ◌≤◌, ◌==◌, ◌&&◌, nat_lt, not, Bool, true, false, cond, List, [], ◌∷◌, ◌++◌, Some, None, Less, Equal, map, filter, append_assoc, refl, sym, ap, subst, ◌∙◌, arith, Option}
 use Rattle.std.specs.List.{AllByRecursion, find}
 use Rattle.std.specs.List.Sorted.{IsStrictlySortedBy}
 use Rattle.std.specs.Cmp.{ranked}
@@ -10,7 +10,7 @@ use Rattle.std.proofs.lemmas.Cmp.{nat_cmp_total, tied_itself}
 use Rattle.std.proofs.lemmas.Option.{none-some}
 use Rattle.std.proofs.lemmas.Map.Keys.{sorted_head, sorted_tail}
 use Rattle.zr_lists.proofs.Numbers.{above_differs}
-use Rattle.zr_node_spec.specs.Tables.{link_at}
+use Rattle.zr_node_spec.specs.Tables.{link_at, is_router}
 use Rattle.zr_msg.specs.declared.peer.LinkPeer.{LinkPeer}
 use Rattle.zr_lists.proofs.Each.{All-append}
 
@@ -165,3 +165,7 @@ parted_links (l ∷ links) n up none = by (nat_lt l.link.0 n) (nat_lt n l.link.0
       where
         not_less : (x y : ℕ) → nat_lt x y ≡ false → y ≤ x
         not_less x y e = omega (arith, ltb-false x y e)
+
+-- whether a look-up found a client's link
+abbrev pub is_client : Option LinkPeer → Bool
+is_client o = option_map_or (λ l. not (is_router l.peer.role)) o false

@@ -9,12 +9,13 @@ use Rattle.zr_lists.proofs.Numbers.{nat_eq_is}
 use Rattle.zr_lists.proofs.Filters.{find_filter_kept, find_filter_gone}
 use Rattle.zr_id.specs.declared.link.LinkNo.{LinkNo}
 use Rattle.zr_lists.specs.Ascending.{at_key, has_key, put, without}
-use Rattle.zr_lists.proofs.Puts.{at-put, at-without}
+use Rattle.zr_lists.proofs.Puts.{at-put}
 use Rattle.zr_lists.proofs.Order.{nat_order}
 use Rattle.zr_local.specs.Clients.{client_link, interests_on, with_interests, noted, clients_left}
 use Rattle.zr_local.specs.Interests.{interest_id}
 use Rattle.zr_local.specs.declared.interest.ClientInterests.{ClientInterests}
 use Rattle.zr_local.specs.declared.interest.Interest.{Interest as LiveInterest}
+use Rattle.zr_local.proofs.LeftInterests.{left_is}
 use Rattle.zr_msg.specs.declared.event.Event.{Event}
 use Rattle.zr_msg.specs.declared.event.Event.TheVariants.{Up, Down, From}
 use Rattle.zr_msg.specs.declared.msg.Msg.{Msg}
@@ -22,11 +23,11 @@ use Rattle.zr_msg.specs.declared.msg.Msg.TheVariants.{Sub, Unsub, Token, Untoken
 use Rattle.zr_msg.specs.declared.peer.LinkPeer.{LinkPeer}
 use Rattle.zr_msg.specs.Peer.{PeerState}
 use Rattle.zr_node_spec.specs.Queries.{link_no}
-use Rattle.zr_node_spec.specs.Tables.{is_link, is_router, link_at, leads_to_client}
+use Rattle.zr_node_spec.specs.Tables.{is_link, link_at, leads_to_client}
 use Rattle.zr_node_spec.specs.Event.{AreLinks, IsFresh, MayCome}
 use Rattle.zr_node_spec.specs.State.{NodeState, new_link}
 use Rattle.zr_node_spec.specs.Table.{live, with_link, without_link, clients_noted, after}
-use Rattle.zr_node_spec.proofs.Links.{find_beside, parted_links}
+use Rattle.zr_node_spec.proofs.Links.{find_beside, parted_links, is_client}
 use Rattle.zr_node_spec.proofs.LinksStay.{links_from}
 use Rattle.zr_router_core.specs.Ready.{is_own_msg, is_own_on, is_gone}
 
@@ -51,20 +52,7 @@ other_noted cs link id None k h = by (has_key nat_cmp client_link cs link.0)
     by false = refl
 other_noted cs link id (Some i) k h = other_with cs link (put nat_cmp interest_id (interests_on cs link.0) i) k h
 
-pub other_left : (cs : List ClientInterests) (link k : ℕ) → interests_on (clients_left cs link) k ≡ cond (link == k) [] (interests_on cs k)
-other_left cs link k =
-    ap (λ o. option_map_or (λ c. c.interests) o []) (at-without nat_cmp client_link nat_order cs link k)
-    ∙ ap (λ b. option_map_or (λ c. c.interests) (cond b None (at_key nat_cmp client_link cs k)) []) (nat_eq_is link k)
-    ∙ by (link == k)
-  where
-    by : (b : Bool) → option_map_or (λ c. c.interests) (cond b None (at_key nat_cmp client_link cs k)) [] ≡ cond b [] (interests_on cs k)
-    by true = refl
-    by false = refl
-
 -- ---- links
-
-abbrev is_client : Option LinkPeer → Bool
-is_client o = option_map_or (λ l. not (is_router l.peer.role)) o false
 
 without_other : (links : List LinkPeer) (link k : ℕ) → (link == k) ≡ false → leads_to_client (without_link links link) k ≡ leads_to_client links k
 without_other links link k h =
@@ -117,8 +105,8 @@ down_home : (n : NodeState) (link : ℕ) → AreHome n → (k : ℕ) → leads_t
 down_home n link home k away = by (leads_to_client n.links link) (link == k) refl refl
   where
     by : (b s : Bool) → leads_to_client n.links link ≡ b → (link == k) ≡ s → interests_on (cond b (clients_left n.clients link) n.clients) k ≡ []
-    by true true e f = other_left n.clients link k ∙ ap (λ t. cond t [] (interests_on n.clients k)) f
-    by true false e f = other_left n.clients link k ∙ ap (λ t. cond t [] (interests_on n.clients k)) f ∙ home k (sym (without_other n.links link k f) ∙ away)
+    by true true e f = left_is n.clients link k ∙ ap (λ t. cond t [] (interests_on n.clients k)) f
+    by true false e f = left_is n.clients link k ∙ ap (λ t. cond t [] (interests_on n.clients k)) f ∙ home k (sym (without_other n.links link k f) ∙ away)
     by false true e f = home k (ap (λ z. leads_to_client n.links z) (sym (eqb-true link k f)) ∙ e)
     by false false e f = home k (sym (without_other n.links link k f) ∙ away)
 
@@ -188,7 +176,7 @@ down_else : (n : NodeState) (link k : ℕ) → (link == k) ≡ false → interes
 down_else n link k h = by (leads_to_client n.links link)
   where
     by : (b : Bool) → interests_on (cond b (clients_left n.clients link) n.clients) k ≡ interests_on n.clients k
-    by true = other_left n.clients link k ∙ ap (λ t. cond t [] (interests_on n.clients k)) h
+    by true = left_is n.clients link k ∙ ap (λ t. cond t [] (interests_on n.clients k)) h
     by false = refl
 
 pub interests_else : (n : NodeState) (event : Event) (k : ℕ) → is_own_on event k ≡ false → is_gone event k ≡ false → interests_on (after n event).clients k ≡ interests_on n.clients k

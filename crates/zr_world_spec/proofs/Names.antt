@@ -1,32 +1,23 @@
 -- Names, and what a look-up by name finds after a replacement or an insertion. Two lemmas serve nearly all steps, over any
 -- reading of what was found: what a replacement does to the reading (`read_after`), and that it does nothing where the
 -- reading cannot tell the two values apart (`read_kept`); `test_after` is the first for tests.
-use Rattle.std.proofs.Common.{◌≡◌, ℕ, Bool, true, false, cond, List, [], ◌∷◌, Option, Some, None, Ordering, refl, sym, ap, ◌∙◌}
+use Rattle.std.proofs.Common.{◌≡◌, ℕ, Bool, true, false, cond, List, [], ◌∷◌, Option, Some, None, refl, sym, ap, ◌∙◌}
 use Rattle.std.specs.Prelude.{IsSome, is_some}
 use Rattle.std.specs.List.{list_all}
 use Rattle.std.specs.Map.{lookup, set_value, values_of}
 use Rattle.std.specs.BTreeMap.{insert_entry}
-use Rattle.std.specs.Ordering.{is_eq, nat_cmp}
-use Rattle.std.specs.declared.cmp.Ordering.TheVariants.{Less, Equal, Greater}
+use Rattle.std.specs.Ordering.{nat_cmp}
 use Rattle.std.specs.Cmp.{IsEquivalence, eq_by_cmp_equiv}
 use Rattle.std.specs.Cmp.Lexicographic.{slice_cmp, nat_list_cmp_total}
-use Rattle.std.proofs.lemmas.Bool.{false≢true, and_parts}
-use Rattle.std.proofs.lemmas.Map.Lookups.{exact_bytes}
+use Rattle.std.proofs.lemmas.Bool.{and_parts}
 use Rattle.zr_lists.proofs.Options.{read_cond}
 use Rattle.zr_id.specs.Zid.{is_named}
 use Rattle.zr_world_spec.proofs.Keyed.{read_same, lookup_set, lookup_insert}
+pub use Rattle.zr_graph.proofs.Names.{same_is as same_name}
 pub use Rattle.zr_world_spec.proofs.Keyed.{of_some}
 
 pub names : IsEquivalence is_named
 names = eq_by_cmp_equiv nat_list_cmp_total
-
-pub same_name : (a b : List ℕ) → is_named a b ≡ true → a ≡ b
-same_name a b h = exact_bytes a b (by_order (slice_cmp nat_cmp a b) h)
-  where
-    by_order : (o : Ordering) → is_eq o ≡ true → o ≡ Equal
-    by_order Less e = absurd (false≢true e)
-    by_order Equal e = refl
-    by_order Greater e = absurd (false≢true e)
 
 module _ {X : Type 0} where
   -- what all values pass, the one that was found passes

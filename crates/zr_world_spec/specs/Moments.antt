@@ -58,6 +58,10 @@ pub record Moment : Type 0 where
 abbrev pub beginning : Moment
 beginning = record { world = empty_world; report = [] }
 
+-- the moment behind what an act reports, in the world that it leads to
+abbrev pub then_at : Moment → List ReportLine × WorldState → Moment
+then_at m x = record { world = x.1; report = m.report ++ x.0 }
+
 -- the moment that an act leads to: none where the act is refused
 abbrev pub went : Moment → Outcome → Option Moment
 went m (Ok x) = Some (record { world = x.1; report = m.report ++ x.0 })

@@ -1,6 +1,6 @@
 -- The world of a script: its routers and clients by name, the ends of links, what waits there, and what is under way.
 -- What each act does to it stands in Acts.
-use Rattle.std.specs.Prelude.{ℕ, ◌+◌, ◌&&◌, ◌||◌, not, Bool, true, false, if◌then◌else◌, List, [], ◌∷◌, ◌++◌, length, map, filter, Option, is_some}
+use Rattle.std.specs.Prelude.{ℕ, ◌+◌, ◌&&◌, ◌||◌, not, Bool, true, false, if◌then◌else◌, List, [], ◌∷◌, ◌++◌, length, map, filter, Option, Some, None, is_some}
 use Rattle.std.specs.declared.cmp.Ordering.{Ordering}
 use Rattle.std.specs.Ordering.{is_eq, nat_cmp, ordering_then}
 use Rattle.std.specs.Cmp.Lexicographic.{slice_cmp}
@@ -237,6 +237,11 @@ changed ends e change = map (λ x. if is_end e x.0 then (x.0, change x.1) else x
 abbrev pub is_empty : List Tagged → Bool
 is_empty [] = true
 is_empty (x ∷ xs) = false
+
+-- what is on the wire to an end
+abbrev pub wire_at : Option EndState → List Tagged
+wire_at None = []
+wire_at (Some s) = s.wire
 
 -- no message is under way at the end
 abbrev pub is_idle : EndState → Bool
